@@ -1,0 +1,4 @@
+-- the cipher
+pub mod Aes
+-- the laws of the cipher
+pub mod Laws
