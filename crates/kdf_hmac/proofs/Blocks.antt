@@ -1,0 +1,122 @@
+-- PBKDF2's bytes, block by block.
+--
+-- Before block i the first n·i bytes stand in the output, or all of them where it has fewer: they are the
+-- first bytes of T_1, .., T_i. The next block goes on from there, and is cut where the output ends.
+use Rattle.std.proofs.Common.{◌≡◌, ◌<◌, ◌≤◌, ℕ, zero, suc, ◌+◌, ◌-◌, ◌*◌, ◌/◌, min, List, [], ◌++◌, length, take}
+use Rattle.std.proofs.Common.{sym, ap, ap₂, ◌∙◌, arith, add-one, mul-zero, take_all, length-append, length-take}
+use Rattle.std.proofs.Math.Seq.{take-append-add}
+use Rattle.std.proofs.lemmas.List.{take_min, take-take}
+use Rattle.std.proofs.lemmas.Slice.{take-put_mid}
+use borrow.Rule.Slice.PartMut.{put_mid}
+use Rattle.vc_base.specs.Bytes.{joined}
+use Rattle.kdf_hmac.specs.declared.prf.Prf.{Prf}
+use Rattle.kdf_hmac.specs.declared.prf.Prf.TheVariants.{Sha512, Sha256}
+use Rattle.kdf_hmac.specs.Hmac.{output_length}
+use Rattle.kdf_hmac.specs.Pbkdf2.{t, block_count, pbkdf2_bytes}
+use Rattle.kdf_hmac.proofs.Turns.{length-t}
+
+-- ---- lists of one length, joined
+
+joined_more : (f : ℕ → List ℕ) (k : ℕ) → joined f (k + 1) ≡ joined f k ++ f k
+unfolding joined
+joined_more f k = ap (joined f) (add-one k)
+
+length-joined : (f : ℕ → List ℕ) (n k : ℕ) → ((j : ℕ) → length (f j) ≡ n) → length (joined f k) ≡ n * k
+unfolding joined
+length-joined f n zero each = sym (mul-zero n)
+length-joined f n (suc k) each =
+    let before = length-joined f n k each in
+    let last = each k in
+    length-append (joined f k) (f k) ∙ omega (arith, before, last)
+
+-- ---- lists of n elements, put one after another into a list of l elements
+
+module _ (f : ℕ → List ℕ) (n l : ℕ) where
+  -- the first i of them stand in out, as far as it goes
+  pub record Filled (out : List ℕ) (i : ℕ) : Type 0 where
+    pub front : take (min (n * i) l) out ≡ take l (joined f i)
+
+  pub filled_none : (out : List ℕ) → Filled out 0
+  unfolding joined
+  filled_none out =
+      let nothing : min (n * 0) l ≡ 0 = omega arith in
+      record { front = ap (λ (k : ℕ). take k out) nothing ∙ sym (take_all l [] (omega arith)) }
+
+  -- the part of the next one that is written: block has more elements after it, and the part ends at e
+  next_part : (block piece : List ℕ) (i e : ℕ) → length (f i) ≡ n → take n block ≡ f i → n * i < l → e ≡ min l (n * i + n)
+      → piece ≡ take (e - n * i) block → piece ≡ take (l - n * i) (f i)
+  next_part block piece i e count block_is inside end piece_is =
+      let rest = l - n * i in
+      let size : e - n * i ≡ min rest n = omega arith in
+      let whole : length (take n block) ≡ n = ap length block_is ∙ count in
+      piece_is
+      ∙ ap (λ (k : ℕ). take k block) size
+      ∙ sym (take-take (min rest n) n block (omega arith))
+      ∙ ap (λ (k : ℕ). take (min rest k) (take n block)) (sym whole)
+      ∙ take_min rest (take n block)
+      ∙ ap (take rest) block_is
+
+  pub filled_more : (out block piece : List ℕ) (i e : ℕ) → ((j : ℕ) → length (f j) ≡ n) → Filled out i → length out ≡ l
+      → take n block ≡ f i → n * i < l → e ≡ min l (n * i + n) → piece ≡ take (e - n * i) block
+      → Filled (put_mid (n * i) (e - n * i) out piece) (i + 1)
+  filled_more out block piece i e each before whole block_is inside end piece_is =
+      let rest = l - n * i in
+      let part : piece ≡ take rest (f i) = next_part block piece i e (each i) block_is inside end piece_is in
+      let count = each i in
+      let size : length piece ≡ min rest n = ap length part ∙ length-take rest (f i) ∙ omega (arith, count) in
+      let length_front : length (joined f i) ≡ n * i = length-joined f n i each in
+      let here : min (n * i) l ≡ n * i = omega arith in
+      let front : take (n * i) out ≡ joined f i
+      = ap (λ (k : ℕ). take k out) (sym here) ∙ before.front ∙ take_all l (joined f i) (omega (arith, length_front)) in
+      let there : min (n * (i + 1)) l ≡ n * i + length piece = omega (arith, size) in
+      let total : l ≡ length (joined f i) + rest = omega (arith, length_front) in
+      record {
+        front =
+            take-put_mid (n * i) (e - n * i) out piece (min (n * (i + 1)) l) there (omega (arith, whole))
+            ∙ ap₂ ◌++◌ front part
+            ∙ sym (take-append-add (joined f i) (f i) rest)
+            ∙ ap (λ (k : ℕ). take k (joined f i ++ f i)) (sym total)
+            ∙ ap (take l) (sym (joined_more f i));
+      }
+
+  pub filled_all : (out : List ℕ) (k : ℕ) → length out ≡ l → l ≤ n * k → Filled out k → out ≡ take l (joined f k)
+  filled_all out k whole enough done =
+      let all : min (n * k) l ≡ l = omega (arith, enough) in
+      sym (take_all l out (omega (arith, whole))) ∙ ap (λ (j : ℕ). take j out) (sym all) ∙ done.front
+
+-- ---- how many blocks there are, where the output has l bytes
+
+pub block_starts : (prf : Prf) (l i : ℕ) → i < block_count prf l → output_length prf * i < l
+block_starts Sha512 l i inside = omega (arith, inside)
+block_starts Sha256 l i inside = omega (arith, inside)
+
+pub blocks_suffice : (prf : Prf) (l : ℕ) → l ≤ output_length prf * block_count prf l
+blocks_suffice Sha512 l = omega arith
+blocks_suffice Sha256 l = omega arith
+
+-- ---- the blocks of PBKDF2, whose lengths the code has as n
+
+abbrev pub block : Prf → List ℕ → List ℕ → ℕ → ℕ → List ℕ
+block prf p s c k = t prf p s c (k + 1)
+
+module _ (prf : Prf) (p s : List ℕ) (c l n : ℕ) (n_is : n ≡ output_length prf) where
+  pub blocks_as_long : (j : ℕ) → length (block prf p s c j) ≡ n
+  blocks_as_long j = length-t prf p s (j + 1) c ∙ sym n_is
+
+  pub count_is : (l + n - 1) / n ≡ block_count prf l
+  count_is = ap (λ (k : ℕ). (l + k - 1) / k) n_is
+
+  pub start_inside : (i : ℕ) → i < (l + n - 1) / n → n * i < l
+  start_inside i before =
+      let inside = block_starts prf l i (omega (arith, before, count_is)) in
+      let start : n * i ≡ output_length prf * i = ap (λ (k : ℕ). k * i) n_is in
+      omega (arith, inside, start)
+
+  pub all_bytes : (out : List ℕ) (i : ℕ) → length out ≡ l → i ≡ (l + n - 1) / n → Filled (block prf p s c) n l out i
+      → out ≡ pbkdf2_bytes prf p s c l
+  unfolding pbkdf2_bytes
+  all_bytes out i whole last done =
+      let count : i ≡ block_count prf l = last ∙ count_is in
+      let bytes : n * i ≡ output_length prf * block_count prf l = ap₂ ◌*◌ n_is count in
+      let enough : l ≤ n * i = omega (arith, bytes, blocks_suffice prf l) in
+      filled_all (block prf p s c) n l out i whole enough done ∙ ap (λ (k : ℕ). take l (joined (block prf p s c) k)) count
