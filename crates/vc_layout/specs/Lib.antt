@@ -1,0 +1,2 @@
+-- where headers stand
+pub mod Layout
