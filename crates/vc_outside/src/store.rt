@@ -1,0 +1,148 @@
+//! What reads and writes a container.
+ghost use Rattle.std.specs.Prelude.{◌≡◌, ◌≤◌, ◌<◌, ◌+◌, ◌^◌, ℕ, List, Option, Some, length, slice_range, IfSome, OnOk, OnErr, IsErr, IsErrOf, refl};
+ghost use Rattle.vc_base.specs.Faults.{HasCause};
+ghost use Rattle.vc_outside.specs.Told.{Both, resized, SameOutside, written};
+
+use crate::sink::OutError;
+use std::marker::Model;
+
+/// A call failed.
+#[derive(Clone, Copy, Debug, PartialEq, Eq)]
+pub struct Failed;
+
+/// A container's bytes. A store that tells its bytes tells the image; each store tells its length and
+/// its count of faults.
+pub trait Store {
+    // The bytes, where the store tells them.
+    ghost image: { Self → Option (List ℕ) };
+
+    // The number of bytes.
+    ghost size: { Self → ℕ };
+
+    // The count of failed calls.
+    ghost faults: { Self → ℕ };
+
+    /// The length in bytes.
+    fn len(&self) -> u64
+        ensures { result ≡ size self.now };
+
+    /// The count of failed calls, which never falls and stays at its last value once that is reached.
+    fn faults(&self) -> u64
+        ensures { result ≡ faults self.now };
+
+    /// Reads the bytes from the offset `at` on until `out` is full. Where it fails, `out` holds any bytes.
+    fn read_at(&mut self, at: u64, out: &mut [u8]) -> Result<(), Failed>
+        requires { at + length out.old ≤ size self.old }
+        ensures read { OnOk result (IfSome (image self.old) (λ b. out.new ≡ slice_range b at (at + length out.old))) }
+        ensures image { image self.new ≡ image self.old }
+        ensures size { size self.new ≡ size self.old }
+        ensures cause { HasCause (faults self.old) (faults self.new) (IsErr result) };
+
+    /// Writes the bytes at the offset `at`. Where it fails, its own range holds any bytes.
+    fn write_at(&mut self, at: u64, bytes: &[u8]) -> Result<(), Failed>
+        requires { at + length bytes.now ≤ size self.old }
+        ensures written { OnOk result (Both (image self.old) (image self.new) (λ b c. c ≡ written at bytes.now b)) }
+        ensures outside { OnErr result (Both (image self.old) (image self.new) (SameOutside at (length bytes.now))) }
+        ensures size { size self.new ≡ size self.old }
+        ensures cause { HasCause (faults self.old) (faults self.new) (IsErr result) };
+
+    /// Cuts the container after `len` bytes, or lengthens it with zeros.
+    fn set_len(&mut self, len: u64) -> Result<(), OutError>
+        ensures resized { OnOk result (Both (image self.old) (image self.new) (λ b c. c ≡ resized len b)) }
+        ensures size { OnOk result (size self.new ≡ len) }
+        ensures same_image { OnErr result (image self.new ≡ image self.old) }
+        ensures same_size { OnErr result (size self.new ≡ size self.old) }
+        ensures cause { HasCause (faults self.old) (faults self.new) (IsErrOf result OutError.Failed) };
+
+    /// Makes what was written last.
+    fn sync(&mut self) -> Result<(), Failed>
+        ensures image { image self.new ≡ image self.old }
+        ensures size { size self.new ≡ size self.old }
+        ensures cause { HasCause (faults self.old) (faults self.new) (IsErr result) };
+
+    // What is told has the length that is told.
+    ghost image_is_whole: { (s : Self) → IfSome (image s) (λ b. length b ≡ size s) };
+}
+
+/// A store over memory that never fails. Contracts see it as the list of its bytes.
+#[derive(Drop)]
+pub struct SureStore {
+    bytes: Vec<u8>,
+}
+
+impl Model for SureStore {
+    ghost Value = { List ℕ };
+
+    ghost view = { λ s. s.bytes.items };
+}
+
+impl SureStore {
+    /// A store of these bytes.
+    pub fn new(bytes: Vec<u8>) -> SureStore
+        ensures { result ≡ bytes.items }
+    {
+        SureStore { bytes }
+    }
+
+    /// All the bytes.
+    pub fn bytes(&self) -> &[u8]
+        ensures { result.now ≡ self.now }
+    {
+        self.bytes.as_slice()
+    }
+}
+
+impl Store for SureStore {
+    ghost image = { λ s. Some s };
+
+    ghost size = { λ s. length s };
+
+    ghost faults = { λ _. 0 };
+
+    fn len(&self) -> u64 {
+        self.bytes.len() as u64
+    }
+
+    fn faults(&self) -> u64 {
+        0
+    }
+
+    fn read_at(&mut self, at: u64, out: &mut [u8]) -> Result<(), Failed> {
+        let from = at as usize;
+        out.copy_from_slice(&self.bytes[from..from + out.len()]);
+        Ok(())
+    }
+
+    fn write_at(&mut self, at: u64, bytes: &[u8]) -> Result<(), Failed> {
+        let from = at as usize;
+        self.bytes[from..from + bytes.len()].copy_from_slice(bytes);
+        Ok(())
+    }
+
+    fn set_len(&mut self, len: u64) -> Result<(), OutError> {
+        match self.bytes.resize(len as usize, 0) {
+            Ok(()) => Ok(()),
+            Err(_) => Err(OutError::NoMemory),
+        }
+    }
+
+    fn sync(&mut self) -> Result<(), Failed> {
+        Ok(())
+    }
+
+    ghost image_is_whole = { λ s. refl };
+}
+
+#[cfg(test)]
+mod tests {
+    use super::*;
+
+    // That memory is had, which no clause says.
+    #[test]
+    fn an_empty_store_is_lengthened_with_zeros(rt: HostRuntime) {
+        let mut store = SureStore::new(Vec::new(rt.alloc()));
+        assert_eq!(rt; store.set_len(262_656), Ok(()));
+        assert_eq!(rt; store.bytes().len(), 262_656);
+        assert!(rt; store.bytes().iter().all(|byte| *byte == 0));
+    }
+}
