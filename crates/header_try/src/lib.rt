@@ -1,0 +1,17 @@
+//! Opening: which header a password makes valid.
+//!
+//! A candidate is a slot with a PRF and an algorithm. Opening tries the candidates of a kind in their
+//! order and gives the first valid one. A slot is read once, and a PRF is derived once for it. So far one
+//! candidate is built: the standard slot with SHA-512 and AES. It takes no memory and changes no byte of
+//! the container.
+//!
+//! `docs/FORMAT.md`, "Opening", has the order of the candidates.
+#![tactic(auto)]
+
+pub use kind::{Kind, OpenError, Opened};
+pub use open::open_plain;
+pub use slot::try_slot;
+
+pub mod kind;
+pub mod open;
+pub mod slot;
