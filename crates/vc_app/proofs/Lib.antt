@@ -1,0 +1,12 @@
+-- output that grows part by part
+pub mod Growth
+-- numbers in digits
+pub mod Numbers
+-- data units of the plain volume
+pub mod Units
+-- the plain units that were written, part by part
+pub mod Parts
+-- the opened volume is the asked one
+pub mod Asked
+-- what the statuses of one step say of the whole
+pub mod Statuses

@@ -1,0 +1,202 @@
+//! `cat`: sectors of the plain volume, deciphered and written.
+ghost use Rattle.std.specs.Prelude.{◌≡◌, ◌≢◌, ◌≤◌, ◌+◌, ◌*◌, ◌/◌, ◌%◌, ◌^◌, ℕ, IfSome, length, None, ◌⊎◌};
+ghost use Rattle.vc_base.specs.Faults.{HasCause};
+ghost use Rattle.vc_layout.specs.Layout.{IsContainerLength};
+ghost use Rattle.vc_outside.specs.Told.{Grows, GrowsByFront};
+ghost use Rattle.cascade_set.specs.declared.algorithm.Algorithm.TheVariants.{Aes};
+ghost use Rattle.cascade_set.specs.Volume.{plain_sectors, plain_units};
+ghost use Rattle.vc_header.specs.Header.{Meets};
+ghost use Rattle.header_try.specs.Candidates.{candidate_of, first};
+ghost use Rattle.vc_app.specs.Cat.{asked, asked_under, keys_of, IsBeyond, IsInside, IsWritten};
+ghost use Rattle.vc_app.specs.Status.{IsOfCat, IsQuiet, IsSettled, IsWriting, status_of};
+ghost use Rattle.header_try.specs.declared.kind.Kind.TheVariants.{StandardOnly};
+
+use crate::output::write_all;
+use crate::status::Status;
+use crate::words::Cat;
+use cascade_set::{Keyed, Keys};
+use cipher_base::UnitCipher;
+use header_try::{Kind, OpenError, Opened, open_plain};
+use vc_layout::SECTOR;
+use vc_outside::{OutError, Sink, Store};
+
+/// The sectors that the buffer holds.
+const BUFFER_SECTORS: u64 = 128;
+
+/// The buffer's length in bytes.
+const BUFFER: usize = 65_536;
+
+/// Opens the volume and writes the asked sectors.
+pub fn cat<D: Store, O: Sink>(disk: &mut D, out: &mut O, command: &Cat) -> Status
+    requires { command.now.pim ≤ 2147468 }
+
+    // What is written, where the store tells its bytes.
+    ensures done { result ≡ Status.Done → IfSome (D.image disk.old) (λ b.
+        IsWritten command.now b (O.contents out.old) (O.contents out.new)) }
+    ensures front { IfSome (D.image disk.old) (λ b.
+        GrowsByFront (O.contents out.old) (O.contents out.new) (asked command.now b)) }
+    ensures quiet { IsQuiet result → O.contents out.new ≡ O.contents out.old }
+    ensures beyond { IfSome (D.image disk.old) (λ b.
+        IsBeyond command.now b → O.contents out.new ≡ O.contents out.old) }
+
+    // Why it is refused.
+    ensures possible { IsOfCat result }
+    ensures no_header { result ≡ Status.NoHeader → IfSome (D.image disk.old) (λ b.
+        first StandardOnly b command.now.password command.now.pim ≡ None) }
+    ensures bad_size { result ≡ Status.BadSize → IfSome (D.image disk.old) (IsBeyond command.now) }
+    ensures no_memory { result ≡ Status.NoMemory → IfSome (D.image disk.old) (IsInside command.now) }
+    ensures length { (n : ℕ) → result ≡ Status.Length n → (n ≡ D.size disk.old) × ¬ IsContainerLength n }
+    ensures refused { ¬ IsContainerLength (D.size disk.old) → result ≡ Status.Length (D.size disk.old) }
+    ensures disk_cause { HasCause (D.faults disk.old) (D.faults disk.new) (result ≡ Status.DiskFault) }
+    ensures out_cause { HasCause (O.faults out.old) (O.faults out.new) (result ≡ Status.OutFault) }
+    ensures disk_count { result ≡ Status.Done → D.faults disk.new ≡ D.faults disk.old }
+    ensures out_count { result ≡ Status.Done → O.faults out.new ≡ O.faults out.old }
+
+    // Nothing of the container changes.
+    ensures image { D.image disk.new ≡ D.image disk.old }
+    ensures size { D.size disk.new ≡ D.size disk.old }
+{
+    let disk_faults = disk.faults();
+    let out_faults = out.faults();
+    let opened = match open_plain(disk, &command.password, command.pim, Kind::StandardOnly) {
+        Ok(opened) => opened,
+        Err(error) => return status_of(error),
+    };
+    match write_asked(disk, out, command, &opened) {
+        Status::Done => settled(disk, out, disk_faults, out_faults),
+        status => status,
+    }
+}
+
+// What a call that did all answers: a fault that it got over is a fault all the same.
+fn settled<D: Store, O: Sink>(disk: &D, out: &O, disk_faults: u64, out_faults: u64) -> Status
+    ensures possible { IsSettled result }
+    ensures done { result ≡ Status.Done → (D.faults disk.now ≡ disk_faults) × (O.faults out.now ≡ out_faults) }
+    ensures disk { result ≡ Status.DiskFault → D.faults disk.now ≢ disk_faults }
+    ensures out { result ≡ Status.OutFault → O.faults out.now ≢ out_faults }
+{
+    if disk.faults() != disk_faults {
+        return Status::DiskFault;
+    }
+    if out.faults() != out_faults {
+        return Status::OutFault;
+    }
+    Status::Done
+}
+
+fn status_of(error: OpenError) -> Status
+    ensures { result ≡ status_of error }
+{
+    match error {
+        OpenError::Length(len) => Status::Length(len),
+        OpenError::NoHeader => Status::NoHeader,
+        OpenError::ReadFault => Status::DiskFault,
+        OpenError::NoMemory => Status::NoMemory,
+    }
+}
+
+// Writes the asked sectors of an opened volume, where it has them.
+fn write_asked<D: Store, O: Sink>(
+    disk: &mut D,
+    out: &mut O,
+    command: &Cat,
+    opened: &Opened,
+) -> Status
+    requires meets { Meets opened.now.fields opened.now.slot (D.size disk.old) }
+    requires small { D.size disk.old ≤ 2 ^ 60 }
+    requires built { opened.now.algorithm ≡ Aes }
+    ensures done { result ≡ Status.Done → IfSome (D.image disk.old) (λ b.
+        Grows (O.contents out.old) (O.contents out.new) (asked_under command.now opened.now.algorithm opened.now.fields b)) }
+    ensures front { IfSome (D.image disk.old) (λ b.
+        GrowsByFront (O.contents out.old) (O.contents out.new) (asked_under command.now opened.now.algorithm opened.now.fields b)) }
+    ensures within { result ≢ Status.BadSize → command.now.first + command.now.count ≤ opened.now.fields.volume_size / 512 }
+    ensures bad_size { result ≡ Status.BadSize → opened.now.fields.volume_size / 512 + 1 ≤ command.now.first + command.now.count }
+    ensures quiet { IsQuiet result → O.contents out.new ≡ O.contents out.old }
+    ensures possible { IsWriting result ⊎ (result ≡ Status.BadSize) }
+    ensures disk_cause { HasCause (D.faults disk.old) (D.faults disk.new) (result ≡ Status.DiskFault) }
+    ensures out_cause { HasCause (O.faults out.old) (O.faults out.new) (result ≡ Status.OutFault) }
+    ensures image { D.image disk.new ≡ D.image disk.old }
+    ensures size { D.size disk.new ≡ D.size disk.old }
+{
+    let sectors = opened.fields.volume_size / SECTOR;
+    if command.first > sectors || command.count > sectors - command.first {
+        return Status::BadSize;
+    }
+    let material = opened.fields.material;
+    let keyed = Keyed::new(&Keys {
+        algorithm: opened.algorithm,
+        material,
+    });
+    let unit = opened.fields.start / SECTOR + command.first;
+    write_units(disk, out, &keyed, unit, command.count)
+}
+
+// Writes `count` deciphered data units, of which the first has the number `unit`.
+fn write_units<D: Store, O: Sink, C: UnitCipher>(
+    disk: &mut D,
+    out: &mut O,
+    cipher: &C,
+    unit: u64,
+    count: u64,
+) -> Status
+    requires within { (unit + count) * 512 ≤ D.size disk.old }
+    requires small { D.size disk.old ≤ 2 ^ 60 }
+    ensures done { result ≡ Status.Done → IfSome (D.image disk.old) (λ b.
+        Grows (O.contents out.old) (O.contents out.new) (plain_units (C.deciphered cipher.now) b unit count)) }
+    ensures front { IfSome (D.image disk.old) (λ b.
+        GrowsByFront (O.contents out.old) (O.contents out.new) (plain_units (C.deciphered cipher.now) b unit count)) }
+    ensures possible { IsWriting result }
+    ensures disk_cause { HasCause (D.faults disk.old) (D.faults disk.new) (result ≡ Status.DiskFault) }
+    ensures out_cause { HasCause (O.faults out.old) (O.faults out.new) (result ≡ Status.OutFault) }
+    ensures image { D.image disk.new ≡ D.image disk.old }
+    ensures size { D.size disk.new ≡ D.size disk.old }
+{
+    let mut buffer = [0u8; BUFFER];
+    let mut at = unit;
+    let mut left = count;
+    'parts: while left > 0 {
+        let part = left.min(BUFFER_SECTORS);
+        let bytes = &mut buffer[..part as usize * 512];
+        match write_part(disk, out, cipher, at, bytes) {
+            Status::Done => {}
+            status => return status,
+        }
+        at += part;
+        left -= part;
+    }
+    Status::Done
+}
+
+// Fills the bytes with data units, of which the first has the number `unit`, deciphers and writes them.
+fn write_part<D: Store, O: Sink, C: UnitCipher>(
+    disk: &mut D,
+    out: &mut O,
+    cipher: &C,
+    unit: u64,
+    bytes: &mut [u8],
+) -> Status
+    requires whole { length bytes.old % 512 ≡ 0 }
+    requires within { unit * 512 + length bytes.old ≤ D.size disk.old }
+    requires small { D.size disk.old ≤ 2 ^ 60 }
+    ensures done { result ≡ Status.Done → IfSome (D.image disk.old) (λ b.
+        Grows (O.contents out.old) (O.contents out.new)
+        (plain_units (C.deciphered cipher.now) b unit (length bytes.old / 512))) }
+    ensures front { IfSome (D.image disk.old) (λ b.
+        GrowsByFront (O.contents out.old) (O.contents out.new)
+        (plain_units (C.deciphered cipher.now) b unit (length bytes.old / 512))) }
+    ensures possible { IsWriting result }
+    ensures disk_cause { HasCause (D.faults disk.old) (D.faults disk.new) (result ≡ Status.DiskFault) }
+    ensures out_cause { HasCause (O.faults out.old) (O.faults out.new) (result ≡ Status.OutFault) }
+    ensures image { D.image disk.new ≡ D.image disk.old }
+    ensures size { D.size disk.new ≡ D.size disk.old }
+{
+    let Ok(()) = disk.read_at(unit * SECTOR, bytes) else {
+        return Status::DiskFault;
+    };
+    cipher.decipher_units(unit, bytes);
+    match write_all(out, bytes) {
+        Ok(()) => Status::Done,
+        Err(OutError::Failed) => Status::OutFault,
+        Err(OutError::NoMemory) => Status::NoMemory,
+    }
+}

@@ -1,0 +1,17 @@
+//! The top calls: from the words of a command line, a container and an output to a status.
+//!
+//! `run_plain` is what the program does, over any store and any sink. So far it carries one command,
+//! `cat`, which writes sectors of the plain volume. Everything streams: a call holds one buffer of 64 KiB,
+//! whatever the container's size.
+#![tactic(auto)]
+
+pub use plain::run_plain;
+pub use status::Status;
+
+mod cat;
+mod output;
+pub mod plain;
+pub mod status;
+#[cfg(test)]
+mod tests;
+mod words;
