@@ -1,0 +1,85 @@
+//! The program `vcserve`: real files, real output, and nothing else.
+//!
+//! The command line goes to the top call of `vc_app` with the container that its second word names and
+//! with the standard output. The status that comes back is the exit status, and where it is not 0, one
+//! line on the standard error says why.
+#![tactic(auto)]
+
+use crate::file_store::FileStore;
+use crate::stream_sink::StreamSink;
+use std::fs::File;
+use std::process::ExitCode;
+use std::rt::{Env, Files};
+use std::thread::Threads;
+use std::{env, io};
+use vc_app::{Status, run_plain};
+use vc_outside::{Failed, SureStore};
+
+mod file_store;
+mod stream_sink;
+
+fn main(rt: HostRuntime) -> ExitCode {
+    let status = match words(&rt) {
+        Ok(words) => run(&rt, words.as_slice()),
+        Err(status) => status,
+    };
+    // Where the standard error is closed, nothing is left to tell it to.
+    let _ = tell(&rt, status);
+    ExitCode::from(status.code())
+}
+
+// The words after the program's name. A word that is not text makes no command.
+fn words<R: Env + AllocGlobal>(rt: &R) -> Result<Vec<String>, Status> {
+    let all = match env::args(rt) {
+        Ok(all) => all,
+        Err(error) if error.kind() == io::ErrorKind::OutOfMemory => return Err(Status::NoMemory),
+        Err(_) => return Err(Status::Usage),
+    };
+    all.skip(1)
+        .collect(rt.alloc())
+        .map_err(|_| Status::NoMemory)
+}
+
+// Calls the top call with the container that the second word names, or without one with an empty store.
+fn run<R: Files<File = File> + Print + AllocGlobal + Threads + Sync>(
+    rt: &R,
+    words: &[String],
+) -> Status {
+    let out = StreamSink::new(io::writer(rt));
+    let Some(path) = words.get(1) else {
+        let none = SureStore::new(Vec::new(rt.alloc()));
+        let (status, _, _) = run_plain(rt, words, none, out);
+        return status;
+    };
+    match FileStore::open(rt, path.as_str()) {
+        Ok(disk) => {
+            let (status, _, _) = run_plain(rt, words, disk, out);
+            status
+        }
+        Err(Failed) => Status::DiskFault,
+    }
+}
+
+fn tell<R: Eprint>(rt: &R, status: Status) -> io::Result<()> {
+    match status {
+        Status::Done => Ok(()),
+        Status::Usage => eprintln!(rt; "vcserve: usage"),
+        Status::NoHeader => eprintln!(rt; "vcserve: no valid header"),
+        Status::NoHidden => eprintln!(rt; "vcserve: no valid hidden header"),
+        Status::Length(len) => eprintln!(rt; "vcserve: container length {len}"),
+        Status::BadSize => eprintln!(rt; "vcserve: bad size"),
+        Status::DiskFault => eprintln!(rt; "vcserve: container fault"),
+        Status::OutFault => eprintln!(rt; "vcserve: output fault"),
+        Status::NoMemory => eprintln!(rt; "vcserve: no memory"),
+        Status::ClientCut(client) => eprintln!(rt;
+            "vcserve: client {client}: input ends inside a request"
+        ),
+        Status::ClientMagic(client, bytes) => {
+            let magic = u32::from_be_bytes(bytes);
+            eprintln!(rt; "vcserve: client {client}: bad magic {magic:08x}")
+        }
+        Status::ClientFault(client) => eprintln!(rt;
+            "vcserve: client {client}: input or output fault"
+        ),
+    }
+}
