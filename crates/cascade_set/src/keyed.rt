@@ -3,16 +3,16 @@ ghost use Rattle.std.specs.Prelude.{◌≡◌, ◌<◌, ℕ, List};
 ghost use Rattle.vc_base.specs.Bytes.{piece};
 ghost use Rattle.cascade_set.specs.declared.algorithm.Algorithm.{Algorithm};
 ghost use Rattle.cascade_set.specs.Cascade.{enciphered, deciphered};
-ghost use Rattle.cascade_set.specs.Laws.{enciphered_is_unit, deciphered_is_unit, deciphers, enciphers};
 
 use crate::algorithm::{Algorithm, Keys};
+use crate::layer::Layer;
 use aes_core::Aes256;
 use cipher_base::{UnitCipher, Xts};
 
 /// A cipher of data units under an algorithm's keys.
 #[derive(Clone, Copy)]
 pub struct Keyed {
-    aes: Xts<Aes256>,
+    aes: Layer<Xts<Aes256>>,
 }
 
 impl Keyed {
@@ -27,7 +27,7 @@ impl Keyed {
         let main = Aes256::new(&key_of(&keys.material, 0));
         let tweak = Aes256::new(&key_of(&keys.material, 1));
         Keyed {
-            aes: Xts::new(main, tweak),
+            aes: Layer::new(Xts::new(main, tweak)),
         }
     }
 
@@ -35,37 +35,37 @@ impl Keyed {
     pub fn header(&self, body: &mut [u8; 448])
         ensures { body.new ≡ ⟦<Keyed as UnitCipher>⟧.enciphered self.now 0 body.old }
     {
-        self.aes.encipher_stretch(0, body);
+        self.aes.cipher.encipher_stretch(0, body);
     }
 
     /// Deciphers a header's body in place, as one stretch under data unit 0.
     pub fn unheader(&self, body: &mut [u8; 448])
         ensures { body.new ≡ ⟦<Keyed as UnitCipher>⟧.deciphered self.now 0 body.old }
     {
-        self.aes.decipher_stretch(0, body);
+        self.aes.cipher.decipher_stretch(0, body);
     }
 }
 
 impl UnitCipher for Keyed {
-    ghost enciphered = { λ c n u. ⟦<Xts<Aes256> as UnitCipher>⟧.enciphered c.aes n u };
+    ghost enciphered = { λ c n u. ⟦<Xts<Aes256> as UnitCipher>⟧.enciphered c.aes.cipher n u };
 
-    ghost deciphered = { λ c n u. ⟦<Xts<Aes256> as UnitCipher>⟧.deciphered c.aes n u };
+    ghost deciphered = { λ c n u. ⟦<Xts<Aes256> as UnitCipher>⟧.deciphered c.aes.cipher n u };
 
     fn encipher_units(&self, first: u64, units: &mut [u8]) {
-        self.aes.encipher_units(first, units);
+        self.aes.cipher.encipher_units(first, units);
     }
 
     fn decipher_units(&self, first: u64, units: &mut [u8]) {
-        self.aes.decipher_units(first, units);
+        self.aes.cipher.decipher_units(first, units);
     }
 
-    ghost enciphered_is_unit = { λ c n u _ b. enciphered_is_unit c.aes n u b };
+    ghost enciphered_is_unit = { λ c n u small b. c.aes.lawful.enciphered_is_unit n u small b };
 
-    ghost deciphered_is_unit = { λ c n u _ b. deciphered_is_unit c.aes n u b };
+    ghost deciphered_is_unit = { λ c n u small b. c.aes.lawful.deciphered_is_unit n u small b };
 
-    ghost deciphers = { λ c n u _ b. deciphers c.aes n u b };
+    ghost deciphers = { λ c n u small b. c.aes.lawful.deciphers n u small b };
 
-    ghost enciphers = { λ c n u _ b. enciphers c.aes n u b };
+    ghost enciphers = { λ c n u small b. c.aes.lawful.enciphers n u small b };
 }
 
 // The i-th key of 32 bytes in the material.

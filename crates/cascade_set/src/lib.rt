@@ -12,3 +12,4 @@ pub use keyed::Keyed;
 
 pub mod algorithm;
 pub mod keyed;
+mod layer;

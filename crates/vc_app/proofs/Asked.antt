@@ -18,6 +18,13 @@ pub told_same_units : (image : Option (List ℕ)) (a b : Option (List ℕ)) (dec
 told_same_units None a b dec dec' u n same all = tt
 told_same_units (Some x) a b dec dec' u n same all = subst (λ (l : List ℕ). Grows a b l) (units_same dec dec' x u n same) all
 
+pub told_same_front : (image : Option (List ℕ)) (a b : Option (List ℕ)) (dec dec' : ℕ → List ℕ → List ℕ) (u n : ℕ)
+    → ((k : ℕ) (x : List ℕ) → dec k x ≡ dec' k x)
+    → IfSome image (λ x. GrowsByFront a b (plain_units dec x u n)) → IfSome image (λ x. GrowsByFront a b (plain_units dec' x u n))
+told_same_front None a b dec dec' u n same front = tt
+told_same_front (Some x) a b dec dec' u n same front =
+    subst (λ (l : List ℕ). GrowsByFront a b l) (units_same dec dec' x u n same) front
+
 asked_first : (command : Cat) (o : Opened) (x : List ℕ) → IsFirst o StandardOnly x command.password command.pim
     → asked_under command o.algorithm o.fields x ≡ asked command x
 asked_first command o x is =
