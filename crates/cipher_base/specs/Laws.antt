@@ -1,8 +1,8 @@
--- XTS keeps units, and its two directions undo each other.
+-- XTS keeps stretches of m whole blocks, and its two directions undo each other.
 --
 -- What the cipher makes of blocks is blocks, and so is a tweak. So block j of what `xts` makes is the whitened block j,
 -- and whitening it the other way cancels each mask and leaves the block.
-use Rattle.std.proofs.Common.{◌≡◌, ℕ, ◌^◌, ◌<◌, List, refl, sym, ap, ◌∙◌}
+use Rattle.std.proofs.Common.{◌≡◌, ℕ, ◌*◌, ◌^◌, ◌<◌, List, refl, sym, ap, ◌∙◌}
 use Rattle.std.proofs.Math.Nat.{zero-lt-suc, le_of_eq}
 use Rattle.vc_base.specs.Bytes.{IsBytes, from_bytes, to_bytes, xor_bytes, piece}
 use Rattle.vc_base.specs.Polynomial.{product}
@@ -19,10 +19,11 @@ pub IsBytes-whitened : (main : List ℕ → List ℕ) (t p : List ℕ) → ((b :
     → IsBytes 16 t → IsBytes 16 p → IsBytes 16 (whitened main t p)
 IsBytes-whitened main t p keeps tb pb = IsBytes-xor 16 (main (xor_bytes p t)) t (keeps (xor_bytes p t) (IsBytes-xor 16 p t pb tb)) tb
 
-pub IsBytes-xts : (main tweak_of : List ℕ → List ℕ) (n : ℕ) (u : List ℕ)
-    → ((b : List ℕ) → IsBytes 16 b → IsBytes 16 (main b)) → IsBytes 512 u → IsBytes 512 (xts main tweak_of n u)
-IsBytes-xts main tweak_of n u keeps bytes =
-    IsBytes-in_pieces 16 32 (λ j p. whitened main (tweak tweak_of n j) p) u (zero-lt-suc 15) bytes
+pub IsBytes-xts : (m : ℕ) (main tweak_of : List ℕ → List ℕ) (n : ℕ) (u : List ℕ)
+    → ((b : List ℕ) → IsBytes 16 b → IsBytes 16 (main b)) → IsBytes (16 * m) u
+    → IsBytes (16 * m) (xts main tweak_of n u)
+IsBytes-xts m main tweak_of n u keeps bytes =
+    IsBytes-in_pieces 16 m (λ j p. whitened main (tweak tweak_of n j) p) u (zero-lt-suc 15) bytes
     (λ j p h pb. IsBytes-whitened main (tweak tweak_of n j) p keeps (IsBytes-tweak tweak_of n j) pb)
 
 -- a mask of the same length cancels itself
@@ -39,23 +40,23 @@ whitened_undone main back t p keeps undoes tb pb =
     ∙ cancelled p t pb tb
 
 -- block j of what xts made
-piece-xts : (main tweak_of : List ℕ → List ℕ) (n j : ℕ) (u : List ℕ)
-    → ((b : List ℕ) → IsBytes 16 b → IsBytes 16 (main b)) → IsBytes 512 u → j < 32
+piece-xts : (m : ℕ) (main tweak_of : List ℕ → List ℕ) (n j : ℕ) (u : List ℕ)
+    → ((b : List ℕ) → IsBytes 16 b → IsBytes 16 (main b)) → IsBytes (16 * m) u → j < m
     → piece 16 j (xts main tweak_of n u) ≡ whitened main (tweak tweak_of n j) (piece 16 j u)
-piece-xts main tweak_of n j u keeps bytes within =
+piece-xts m main tweak_of n j u keeps bytes within =
     let f : ℕ → List ℕ → List ℕ = λ i p. whitened main (tweak tweak_of n i) p in
-    ap (piece 16 j) (in_pieces-joined 16 32 f u (zero-lt-suc 15) bytes.count)
-    ∙ piece-joined (λ i. f i (piece 16 i u)) 16 32 j
+    ap (piece 16 j) (in_pieces-joined 16 m f u (zero-lt-suc 15) bytes.count)
+    ∙ piece-joined (λ i. f i (piece 16 i u)) 16 m j
     (λ i h. (IsBytes-whitened main (tweak tweak_of n i) (piece 16 i u) keeps (IsBytes-tweak tweak_of n i)
-    (IsBytes-piece 512 16 i u bytes (piece_of_whole 16 i 32 512 refl h))).count)
+    (IsBytes-piece (16 * m) 16 i u bytes (piece_of_whole 16 i m (16 * m) refl h))).count)
     within
 
-pub xts_undone : (main back tweak_of : List ℕ → List ℕ) (n : ℕ) (u : List ℕ)
+pub xts_undone : (m : ℕ) (main back tweak_of : List ℕ → List ℕ) (n : ℕ) (u : List ℕ)
     → ((b : List ℕ) → IsBytes 16 b → IsBytes 16 (main b)) → ((b : List ℕ) → IsBytes 16 b → back (main b) ≡ b)
-    → IsBytes 512 u → xts back tweak_of n (xts main tweak_of n u) ≡ u
-xts_undone main back tweak_of n u keeps undoes bytes =
-    sym (in_pieces_alone 16 32 (λ j p. whitened back (tweak tweak_of n j) p) (xts main tweak_of n u) u (zero-lt-suc 15)
-    (IsBytes-xts main tweak_of n u keeps bytes).count bytes.count
-    (λ j h. sym (ap (whitened back (tweak tweak_of n j)) (piece-xts main tweak_of n j u keeps bytes h)
+    → IsBytes (16 * m) u → xts back tweak_of n (xts main tweak_of n u) ≡ u
+xts_undone m main back tweak_of n u keeps undoes bytes =
+    sym (in_pieces_alone 16 m (λ j p. whitened back (tweak tweak_of n j) p) (xts main tweak_of n u) u (zero-lt-suc 15)
+    (IsBytes-xts m main tweak_of n u keeps bytes).count bytes.count
+    (λ j h. sym (ap (whitened back (tweak tweak_of n j)) (piece-xts m main tweak_of n j u keeps bytes h)
     ∙ whitened_undone main back (tweak tweak_of n j) (piece 16 j u) keeps undoes (IsBytes-tweak tweak_of n j)
-    (IsBytes-piece 512 16 j u bytes (piece_of_whole 16 j 32 512 refl h)))))
+    (IsBytes-piece (16 * m) 16 j u bytes (piece_of_whole 16 j m (16 * m) refl h)))))

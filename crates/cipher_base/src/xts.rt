@@ -127,17 +127,17 @@ impl<P: BlockCipher> UnitCipher for Xts<P> {
     }
 
     ghost enciphered_is_unit = { λ c n u _ b.
-        IsBytes-xts (P.enciphered c.main) (P.enciphered c.tweak) n u (P.enciphered_is_block c.main) b };
+        IsBytes-xts 32 (P.enciphered c.main) (P.enciphered c.tweak) n u (P.enciphered_is_block c.main) b };
 
     ghost deciphered_is_unit = { λ c n u _ b.
-        IsBytes-xts (P.deciphered c.main) (P.enciphered c.tweak) n u (P.deciphered_is_block c.main) b };
+        IsBytes-xts 32 (P.deciphered c.main) (P.enciphered c.tweak) n u (P.deciphered_is_block c.main) b };
 
     ghost deciphers = { λ c n u _ b.
-        xts_undone (P.enciphered c.main) (P.deciphered c.main) (P.enciphered c.tweak) n u
+        xts_undone 32 (P.enciphered c.main) (P.deciphered c.main) (P.enciphered c.tweak) n u
         (P.enciphered_is_block c.main) (P.deciphers c.main) b };
 
     ghost enciphers = { λ c n u _ b.
-        xts_undone (P.deciphered c.main) (P.enciphered c.main) (P.enciphered c.tweak) n u
+        xts_undone 32 (P.deciphered c.main) (P.enciphered c.main) (P.enciphered c.tweak) n u
         (P.deciphered_is_block c.main) (P.enciphers c.main) b };
 }
 
