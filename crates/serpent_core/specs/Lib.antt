@@ -1,0 +1,4 @@
+-- the cipher
+pub mod Serpent
+-- the laws of the cipher
+pub mod Laws
