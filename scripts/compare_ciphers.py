@@ -1,0 +1,166 @@
+#!/usr/bin/env python3
+"""Our block ciphers beside libgcrypt's: the same blocks under the same keys, in both directions.
+
+  compare_ciphers.py [NAME] [CASES]
+
+NAME is a row of CIPHERS, `serpent` where none is named, and CASES how many keys and blocks are
+tried, 10000 where no number is given. The first cases have one bit set or none, the others are
+random.
+
+No program of the repository enciphers single blocks. So a copy of the cipher's crate and of those
+below it is made in a temporary folder, with a program beside them that does, and `rt run` proves
+and builds it.
+
+The status is 0 where all answers agree; 1 where two differ, and then the case with the fewest bits
+is printed; 77 where libgcrypt or `rt` is missing.
+"""
+import ctypes
+import ctypes.util
+import os
+import random
+import shutil
+import subprocess
+import sys
+import tempfile
+
+ROOT = os.path.dirname(os.path.dirname(os.path.abspath(__file__)))
+KEY, BLOCK = 32, 16
+ECB = 1
+
+# our name: the crate, its type, and libgcrypt's name
+CIPHERS = {
+    "aes": ("aes_core", "Aes256", b"AES256"),
+    "serpent": ("serpent_core", "Serpent256", b"SERPENT256"),
+    "twofish": ("twofish_core", "Twofish256", b"TWOFISH"),
+}
+
+PROBE = """//! Enciphers and deciphers each block that comes in behind its key.
+#![tactic(auto)]
+
+use cipher_base::BlockCipher;
+use {crate}::{type};
+use std::io::{{self, Read, Write}};
+
+fn main(rt: HostRuntime) -> io::Result<()> {{
+    let mut input = rt.reader();
+    let mut output = io::writer(&rt);
+    for _ in 0..{cases} {{
+        let mut key = [0; 32];
+        input.read_exact(&mut key)?;
+        let mut block = [0; 16];
+        input.read_exact(&mut block)?;
+        let cipher = {type}::new(&key);
+        let mut enciphered = block;
+        cipher.encipher(&mut enciphered);
+        output.write_all(&enciphered)?;
+        cipher.decipher(&mut block);
+        output.write_all(&block)?;
+    }}
+    Ok(())
+}}
+"""
+
+
+def below(crate):
+    """The crates of crates.txt that a crate stands on, itself included, each with its line."""
+    lines = {}
+    with open(os.path.join(ROOT, "crates.txt"), encoding="utf-8") as file:
+        for line in file:
+            if ":" in line and not line.startswith("#"):
+                name, deps = line.strip().split(":")
+                lines[name.split()[0]] = deps.split()
+    found, waiting = {}, [crate]
+    while waiting:
+        name = waiting.pop()
+        if name in lines and name not in found:
+            found[name] = lines[name]
+            waiting += lines[name]
+    return found
+
+
+def ours(crate, kind, cases):
+    """What our cipher makes of each case: the block enciphered, and the block deciphered."""
+    with tempfile.TemporaryDirectory() as folder:
+        crates = below(crate)
+        for name in crates:
+            shutil.copytree(
+                os.path.join(ROOT, "crates", name),
+                os.path.join(folder, "crates", name),
+                ignore=shutil.ignore_patterns("out", "must-fail"),
+            )
+        with open(os.path.join(folder, "crates.txt"), "w", encoding="utf-8") as file:
+            for name, deps in crates.items():
+                file.write(f"{name}: {' '.join(deps)}\n")
+            file.write(f"cipher_probe: {' '.join(crates)}\n")
+        probe = os.path.join(folder, "crates", "cipher_probe")
+        os.makedirs(os.path.join(probe, "src"))
+        with open(os.path.join(probe, "src", "main.rt"), "w", encoding="utf-8") as file:
+            file.write(PROBE.format(**{"crate": crate, "type": kind, "cases": len(cases)}))
+        built = subprocess.run(["rt", "run"], cwd=probe, capture_output=True, input=b"")
+        program = os.path.join(probe, "out", "cipher_probe")
+        if not os.path.exists(program):
+            sys.exit("the program was not built:\n" + built.stdout.decode() + built.stderr.decode())
+        records = b"".join(key + block for key, block in cases)
+        told = subprocess.run([program], input=records, capture_output=True, check=True).stdout
+    pairs = [told[i : i + 2 * BLOCK] for i in range(0, len(told), 2 * BLOCK)]
+    return [(pair[:BLOCK], pair[BLOCK:]) for pair in pairs]
+
+
+def theirs(library, name, cases):
+    """The same of libgcrypt's cipher."""
+    answers = []
+    algorithm = library.gcry_cipher_map_name(name)
+    for key, block in cases:
+        handle = ctypes.c_void_p()
+        assert library.gcry_cipher_open(ctypes.byref(handle), algorithm, ECB, 0) == 0
+        assert library.gcry_cipher_setkey(handle, key, KEY) == 0
+        made = []
+        for call in (library.gcry_cipher_encrypt, library.gcry_cipher_decrypt):
+            out = ctypes.create_string_buffer(BLOCK)
+            assert call(handle, out, BLOCK, block, BLOCK) == 0
+            made.append(out.raw)
+        library.gcry_cipher_close(handle)
+        answers.append(tuple(made))
+    return answers
+
+
+def cases_of(count):
+    """Records of a key and a block: none set, then each bit alone, then random ones."""
+    size = KEY + BLOCK
+    numbers = [0] + [1 << i for i in range(8 * size)]
+    numbers += [random.getrandbits(8 * size) for _ in range(count)]
+    records = [number.to_bytes(size, "big") for number in numbers[:count]]
+    return [(record[:KEY], record[KEY:]) for record in records]
+
+
+def bits_of(pair):
+    """How many bits are set in the key and the block of a case."""
+    return sum(byte.bit_count() for part in pair[0] for byte in part)
+
+
+def main():
+    name = sys.argv[1] if len(sys.argv) > 1 else "serpent"
+    count = int(sys.argv[2]) if len(sys.argv) > 2 else 10000
+    crate, kind, other = CIPHERS[name]
+    found = ctypes.util.find_library("gcrypt")
+    if found is None or shutil.which("rt") is None:
+        print("skipped: libgcrypt or rt is missing", file=sys.stderr)
+        return 77
+    library = ctypes.CDLL(found)
+    library.gcry_check_version.restype = ctypes.c_char_p
+    library.gcry_check_version(None)
+    cases = cases_of(count)
+    pairs = zip(cases, ours(crate, kind, cases), theirs(library, other, cases), strict=True)
+    differing = [pair for pair in pairs if pair[1] != pair[2]]
+    if not differing:
+        print(f"{name}: {count} keys and blocks agree with libgcrypt in both directions")
+        return 0
+    (key, block), we, they = min(differing, key=bits_of)
+    print(f"{name}: {len(differing)} of {count} differ; under the key {key.hex()}")
+    for i, direction in enumerate(("enciphered", "deciphered")):
+        print(f"{block.hex()} {direction}: {we[i].hex()}, libgcrypt {they[i].hex()}")
+    return 1
+
+
+if __name__ == "__main__":
+    sys.exit(main())
