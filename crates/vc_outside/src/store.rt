@@ -1,6 +1,7 @@
 //! What reads and writes a container.
-ghost use Rattle.std.specs.Prelude.{◌≡◌, ◌≤◌, ◌<◌, ◌+◌, ◌^◌, ℕ, List, Option, Some, length, slice_range, IfSome, OnOk, OnErr, IsErr, IsErrOf, refl};
+ghost use Rattle.std.specs.Prelude.{◌≡◌, ◌≤◌, ◌<◌, ◌+◌, ◌^◌, ℕ, List, Option, Some, length, slice_range, IfSome, OnOk, OnErr, IsErr, IsErrOf, Bool, true, false, ⊤, refl};
 ghost use Rattle.vc_base.specs.Faults.{HasCause};
+ghost use Rattle.vc_outside.specs.Crash.{IsLasting, Outcomes, Relength, Stays};
 ghost use Rattle.vc_outside.specs.Told.{Both, resized, SameOutside, written};
 
 use crate::sink::OutError;
@@ -22,6 +23,18 @@ pub trait Store {
     // The count of failed calls.
     ghost faults: { Self → ℕ };
 
+    // Whether the store tells what a crash may leave.
+    ghost tells: { Bool };
+
+    // What a crash at this moment may leave.
+    ghost may_leave: { Self → List ℕ → Type 0 };
+
+    // The moment, as a number that does not fall.
+    ghost moment: { Self → ℕ };
+
+    // What a crash at some moment from that one on might have left, during a call or between two.
+    ghost left_since: { Self → ℕ → List ℕ → Type 0 };
+
     /// The length in bytes.
     fn len(&self) -> u64
         ensures { result ≡ size self.now };
@@ -36,6 +49,8 @@ pub trait Store {
         ensures read { OnOk result (IfSome (image self.old) (λ b. out.new ≡ slice_range b at (at + length out.old))) }
         ensures image { image self.new ≡ image self.old }
         ensures size { size self.new ≡ size self.old }
+        ensures crash { Outcomes tells (moment self.old) (moment self.new) (left_since self.old) (left_since self.new)
+            (may_leave self.old) (may_leave self.new) Stays }
         ensures cause { HasCause (faults self.old) (faults self.new) (IsErr result) };
 
     /// Writes the bytes at the offset `at`. Where it fails, its own range holds any bytes.
@@ -44,6 +59,8 @@ pub trait Store {
         ensures written { OnOk result (Both (image self.old) (image self.new) (λ b c. c ≡ written at bytes.now b)) }
         ensures outside { OnErr result (Both (image self.old) (image self.new) (SameOutside at (length bytes.now))) }
         ensures size { size self.new ≡ size self.old }
+        ensures crash { Outcomes tells (moment self.old) (moment self.new) (left_since self.old) (left_since self.new)
+            (may_leave self.old) (may_leave self.new) (SameOutside at (length bytes.now)) }
         ensures cause { HasCause (faults self.old) (faults self.new) (IsErr result) };
 
     /// Cuts the container after `len` bytes, or lengthens it with zeros.
@@ -52,16 +69,27 @@ pub trait Store {
         ensures size { OnOk result (size self.new ≡ len) }
         ensures same_image { OnErr result (image self.new ≡ image self.old) }
         ensures same_size { OnErr result (size self.new ≡ size self.old) }
+        ensures crash { Outcomes tells (moment self.old) (moment self.new) (left_since self.old) (left_since self.new)
+            (may_leave self.old) (may_leave self.new) (Relength len) }
         ensures cause { HasCause (faults self.old) (faults self.new) (IsErrOf result OutError.Failed) };
 
-    /// Makes what was written last.
+    /// Makes what was written last: after it a crash leaves what a read gives.
     fn sync(&mut self) -> Result<(), Failed>
+        ensures lasting { OnOk result (IsLasting tells (image self.new) (may_leave self.new)) }
         ensures image { image self.new ≡ image self.old }
         ensures size { size self.new ≡ size self.old }
+        ensures crash { Outcomes tells (moment self.old) (moment self.new) (left_since self.old) (left_since self.new)
+            (may_leave self.old) (may_leave self.new) Stays }
         ensures cause { HasCause (faults self.old) (faults self.new) (IsErr result) };
 
     // What is told has the length that is told.
     ghost image_is_whole: { (s : Self) → IfSome (image s) (λ b. length b ≡ size s) };
+
+    // This moment is one of those since an earlier one.
+    ghost counts_now: { tells ≡ true → (s : Self) (t : ℕ) (c : List ℕ) → t ≤ moment s → may_leave s c → left_since s t c };
+
+    // Since this moment there is no other.
+    ghost only_now: { tells ≡ true → (s : Self) (c : List ℕ) → left_since s (moment s) c → may_leave s c };
 }
 
 /// A store over memory that never fails. Contracts see it as the list of its bytes.
@@ -99,6 +127,14 @@ impl Store for SureStore {
 
     ghost faults = { λ _. 0 };
 
+    ghost tells = { false };
+
+    ghost may_leave = { λ _ _. ⊤ };
+
+    ghost moment = { λ _. 0 };
+
+    ghost left_since = { λ _ _ _. ⊤ };
+
     fn len(&self) -> u64 {
         self.bytes.len() as u64
     }
@@ -131,6 +167,10 @@ impl Store for SureStore {
     }
 
     ghost image_is_whole = { λ s. refl };
+
+    ghost counts_now = { λ _ _ _ _ _ _. tt };
+
+    ghost only_now = { λ _ _ _ _. tt };
 }
 
 #[cfg(test)]

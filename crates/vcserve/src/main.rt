@@ -3,29 +3,40 @@
 //! The command line goes to the top call of `vc_app` with the container that its second word names and
 //! with the standard output. The status that comes back is the exit status, and where it is not 0, one
 //! line on the standard error says why.
+//!
+//! A file that is opened takes the lowest descriptor that is free. Where the standard input, output or
+//! error is closed, that is its number, and what is printed would be written into a container. So
+//! `main` opens /dev/null three times first, and keeps it open until the end.
 #![tactic(auto)]
 
-use crate::file_store::FileStore;
-use crate::stream_sink::StreamSink;
 use std::fs::File;
 use std::process::ExitCode;
 use std::rt::{Env, Files};
 use std::thread::Threads;
 use std::{env, io};
 use vc_app::{Status, run_plain};
+use vc_host::{FileStore, StreamSink};
 use vc_outside::{Failed, SureStore};
 
-mod file_store;
-mod stream_sink;
-
 fn main(rt: HostRuntime) -> ExitCode {
+    let kept = keep_standard(&rt);
     let status = match words(&rt) {
-        Ok(words) => run(&rt, words.as_slice()),
+        Ok(words) if kept.is_ok() => run(&rt, words.as_slice()),
+        Ok(_) => Status::DiskFault,
         Err(status) => status,
     };
     // Where the standard error is closed, nothing is left to tell it to.
     let _ = tell(&rt, status);
     ExitCode::from(status.code())
+}
+
+// Files that are no container, for those of the descriptors 0 to 2 that are closed. They can only be
+// read, so that output to a closed standard output is a fault as before.
+fn keep_standard<R: Files<File = File>>(rt: &R) -> io::Result<(File, File, File)> {
+    let first = File::open(rt, "/dev/null")?;
+    let second = File::open(rt, "/dev/null")?;
+    let third = File::open(rt, "/dev/null")?;
+    Ok((first, second, third))
 }
 
 // The words after the program's name. A word that is not text makes no command.

@@ -1,0 +1,165 @@
+//! What no clause says: that the calls reach a real file, and what a stream's answers become.
+use super::*;
+use std::fs::{self, File};
+use std::io::{self, ErrorKind, Write};
+use vc_outside::{Failed, OutError, Sink, Store, SureStore};
+
+// A call that changes a container.
+#[derive(Clone, Copy, Drop)]
+enum Change {
+    Write(u64, [u8; 5]),
+    Resize(u64),
+    Sync,
+}
+
+// Whether the call was Ok. A write past the end is none.
+fn changes<S: Store>(store: &mut S, change: Change) -> bool {
+    match change {
+        Change::Write(at, bytes) => {
+            if at > store.len() || store.len() - at < 5 {
+                return false;
+            }
+            store.write_at(at, &bytes).is_ok()
+        }
+        Change::Resize(len) => store.set_len(len).is_ok(),
+        Change::Sync => store.sync().is_ok(),
+    }
+}
+
+// Whether the bytes at an offset were read. A read past the end is none.
+fn reads<S: Store>(store: &mut S, at: u64, out: &mut [u8]) -> bool {
+    if at > store.len() || store.len() - at < out.len() as u64 {
+        return false;
+    }
+    store.read_at(at, out).is_ok()
+}
+
+#[test]
+fn a_file_holds_what_the_store_over_memory_holds(rt: HostRuntime) {
+    let path = "same_calls.tmp";
+    let Ok(mut disk) = FileStore::create(&rt, path) else {
+        return assert!(rt; false, "not made");
+    };
+    let mut sure = SureStore::new(Vec::new(rt.alloc()));
+    for (i, change) in [
+        Change::Resize(12),
+        Change::Write(0, *b"front"),
+        Change::Write(7, *b"back!"),
+        Change::Write(8, *b"none "),
+        Change::Sync,
+        Change::Resize(9),
+        Change::Resize(9000),
+        Change::Write(8995, *b"after"),
+        Change::Write(4, *b"cross"),
+        Change::Sync,
+        Change::Resize(0),
+        Change::Write(0, *b"empty"),
+        Change::Resize(6),
+    ]
+    .into_iter()
+    .enumerate()
+    {
+        assert_eq!(rt;
+            changes(&mut disk, change),
+            changes(&mut sure, change),
+            "call {i}"
+        );
+        assert_eq!(rt; disk.len(), sure.len(), "call {i}");
+        for at in [0, 4, 8, 8992] {
+            let (mut got, mut want) = ([1; 8], [1; 8]);
+            assert_eq!(rt;
+                reads(&mut disk, at, &mut got),
+                reads(&mut sure, at, &mut want)
+            );
+            assert_eq!(rt; got, want, "call {i}, at {at}");
+        }
+    }
+    assert_eq!(rt; disk.faults(), 0);
+    assert!(rt; fs::remove_file(&rt, path).is_ok());
+}
+
+#[test]
+fn a_file_is_found_again_and_has_a_hole_past_4_gib(rt: HostRuntime) {
+    let path = "sparse.tmp";
+    let far = (4 << 30) + 7;
+    assert!(rt; FileStore::open(&rt, path).is_err(), "a missing file");
+    assert!(rt; FileStore::open(&rt, ".").is_err(), "a folder");
+    assert!(rt; FileStore::create(&rt, ".").is_err(), "a folder");
+    let Ok(mut made) = FileStore::create(&rt, path) else {
+        return assert!(rt; false, "not made");
+    };
+    assert_eq!(rt; made.len(), 0);
+    assert_eq!(rt; made.set_len(5 << 30), Ok(()));
+    assert!(rt; changes(&mut made, Change::Write(far, *b"above")));
+    assert_eq!(rt; made.set_len(1 << 63), Err(OutError::Failed));
+    assert_eq!(rt; (made.len(), made.faults()), (5 << 30, 1));
+    drop(made);
+    for store in [FileStore::open(&rt, path), FileStore::create(&rt, path)] {
+        let Ok(mut store) = store else {
+            return assert!(rt; false, "not found");
+        };
+        assert_eq!(rt; (store.len(), store.faults()), (5 << 30, 0));
+        let (mut below, mut above) = ([1; 7], [1; 7]);
+        assert!(rt; reads(&mut store, 7, &mut below));
+        assert!(rt; reads(&mut store, far, &mut above));
+        assert_eq!(rt; (below, above), ([0; 7], *b"above\0\0"));
+    }
+    assert!(rt; fs::remove_file(&rt, path).is_ok());
+}
+
+#[test]
+fn a_file_takes_output_from_its_begin(rt: HostRuntime) {
+    let path = "output.tmp";
+    assert!(rt; FileSink::open(&rt, "no folder/output.tmp").is_err());
+    for (piece, left) in [(b"longer".as_slice(), 6), (b"new".as_slice(), 3)] {
+        let Ok(mut sink) = FileSink::open(&rt, path) else {
+            return assert!(rt; false, "not made");
+        };
+        assert_eq!(rt; sink.write(piece), Ok(left));
+        assert_eq!(rt; sink.write(&[]), Ok(0));
+        assert_eq!(rt; sink.faults(), 0);
+        let Ok(held) = fs::read(&rt, path) else {
+            return assert!(rt; false, "not read");
+        };
+        assert_eq!(rt; held.as_slice(), piece);
+    }
+    assert!(rt; fs::remove_file(&rt, path).is_ok());
+}
+
+// A writer whose calls answer what the list says, and then take all.
+#[derive(Drop)]
+struct Scripted {
+    answers: [Option<ErrorKind>; 4],
+    next: usize,
+}
+
+impl Write for Scripted {
+    fn write(&mut self, buf: &[u8]) -> io::Result<usize> {
+        let answer = self.answers.get(self.next).copied();
+        self.next = self.next.saturating_add(1);
+        match answer {
+            Some(Some(kind)) => Err(io::Error::from(kind)),
+            Some(None) => Ok(0),
+            None => Ok(buf.len()),
+        }
+    }
+
+    fn flush(&mut self) -> io::Result<()> {
+        Ok(())
+    }
+}
+
+#[test]
+fn only_an_interrupted_call_is_made_again(rt: HostRuntime) {
+    let broken_off = Some(ErrorKind::Interrupted);
+    let mut sink = StreamSink::new(Scripted {
+        answers: [broken_off, broken_off, Some(ErrorKind::WriteZero), None],
+        next: 0,
+    });
+    assert_eq!(rt; sink.write(b"lost"), Err(OutError::Failed));
+    assert_eq!(rt; sink.faults(), 1);
+    assert_eq!(rt; sink.write(b"lost"), Err(OutError::Failed));
+    assert_eq!(rt; sink.faults(), 2);
+    assert_eq!(rt; sink.write(b"taken"), Ok(5));
+    assert_eq!(rt; sink.faults(), 2);
+}

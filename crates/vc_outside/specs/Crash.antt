@@ -1,0 +1,37 @@
+-- What a crash may leave of a container, where a store tells it.
+--
+-- Between two syncs each range that was written, or that a longer length added, may hold any bytes after a
+-- crash, the length may be any that the container had since, and other bytes stay. After a sync that
+-- succeeded a crash leaves what a read gives. A read adds nothing, and neither does a sync that failed.
+--
+-- An outcome is an image that a crash may leave. A store tells its outcomes at this moment, and by a clock
+-- those of each moment since an earlier one.
+--
+-- Stays old new               nothing more
+-- Relength n old new          the old outcome, or one of n bytes that shares its front
+-- Outcomes ..                 what a call does to the outcomes: of this moment, and of each since an earlier one
+-- IsLasting tells image can   a crash now leaves the image and nothing else
+use Rattle.std.specs.Prelude.{◌≡◌, ◌≤◌, ◌⊎◌, ℕ, Bool, true, List, length, take, Option, IfSome}
+
+abbrev pub Stays : List ℕ → List ℕ → Type 0
+Stays old new = new ≡ old
+
+-- n bytes that share the front with old: any bytes stand past the end of old
+pub record SharesFront (n : ℕ) (old new : List ℕ) : Type 0 where
+  pub as_long : length new ≡ n
+  pub front : take (length old) new ≡ take n old
+
+abbrev pub Relength : ℕ → List ℕ → List ℕ → Type 0
+Relength n old new = (new ≡ old) ⊎ SharesFront n old new
+
+-- Each outcome of now is one of before, after a step. A crash since an earlier moment leaves what it might
+-- have left before, or what it may leave now.
+pub record Outcomes (tells : Bool) (before now : ℕ) (past since : ℕ → List ℕ → Type 0) (could can : List ℕ → Type 0)
+    (step : List ℕ → List ℕ → Type 0) : Type 0 where
+  pub follows : tells ≡ true → (c : List ℕ) → can c → (d : List ℕ) × could d × step d c
+  pub later : tells ≡ true → before ≤ now
+  pub nothing_else : tells ≡ true → (t : ℕ) (c : List ℕ) → t ≤ before → since t c → past t c ⊎ can c
+  pub keeps : tells ≡ true → (t : ℕ) (c : List ℕ) → t ≤ before → past t c → since t c
+
+abbrev pub IsLasting : Bool → Option (List ℕ) → (List ℕ → Type 0) → Type 0
+IsLasting tells image can = tells ≡ true → IfSome image (λ b. (c : List ℕ) → can c → c ≡ b)

@@ -1,0 +1,2 @@
+-- the moments of a record
+pub mod Moments
