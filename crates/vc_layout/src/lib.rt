@@ -7,6 +7,8 @@
 //! Source: VeraCrypt's documentation, "VeraCrypt Volume Format Specification".
 #![tactic(auto)]
 
+pub use geometry::{Geometry, LONGEST_FORMATTED, outer_of};
 pub use slots::{GROUP, LONGEST, SECTOR, SHORTEST, Slot, is_container_length, slot_at};
 
+pub mod geometry;
 pub mod slots;

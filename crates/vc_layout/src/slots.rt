@@ -1,6 +1,6 @@
 //! The four slots for headers.
 ghost use Rattle.std.specs.Prelude.{◌≡◌, ◌≤◌, ◌↔◌, IsTrue};
-ghost use Rattle.vc_layout.specs.Layout.{place_of, IsContainerLength};
+ghost use Rattle.vc_layout.specs.Layout.{place_of, slot_name, IsContainerLength};
 
 /// The length of a header group, one at each end of a container.
 pub const GROUP: u64 = 131_072;
@@ -22,6 +22,20 @@ pub enum Slot {
     Hidden,
     BackupStandard,
     BackupHidden,
+}
+
+impl Slot {
+    /// The name that users read.
+    pub fn name(self) -> &'static str
+        ensures { result.now ≡ slot_name self }
+    {
+        match self {
+            Slot::Standard => "standard",
+            Slot::Hidden => "hidden",
+            Slot::BackupStandard => "backup-standard",
+            Slot::BackupHidden => "backup-hidden",
+        }
+    }
 }
 
 /// Whether a container of `len` bytes can be opened.
