@@ -3,7 +3,7 @@
 -- Before block i the first n·i bytes stand in the output, or all of them where it has fewer: they are the
 -- first bytes of T_1, .., T_i. The next block goes on from there, and is cut where the output ends.
 use Rattle.std.proofs.Common.{◌≡◌, ◌<◌, ◌≤◌, ℕ, zero, suc, ◌+◌, ◌-◌, ◌*◌, ◌/◌, min, List, [], ◌++◌, length, take}
-use Rattle.std.proofs.Common.{sym, ap, ap₂, ◌∙◌, arith, add-one, mul-zero, take_all, length-append, length-take}
+use Rattle.std.proofs.Common.{sym, ap, ap₂, ◌∙◌, subst, arith, add-one, mul-zero, take_all, length-append, length-take}
 use Rattle.std.proofs.Math.Seq.{take-append-add}
 use Rattle.std.proofs.lemmas.List.{take_min, take-take}
 use Rattle.std.proofs.lemmas.Slice.{take-put_mid}
@@ -12,7 +12,8 @@ use Rattle.vc_base.specs.Bytes.{joined}
 use Rattle.kdf_hmac.specs.declared.prf.Prf.{Prf}
 use Rattle.kdf_hmac.specs.declared.prf.Prf.TheVariants.{Sha512, Sha256}
 use Rattle.kdf_hmac.specs.Hmac.{output_length}
-use Rattle.kdf_hmac.specs.Pbkdf2.{t, block_count, pbkdf2_bytes}
+use Rattle.kdf_hmac.specs.Pbkdf2.{block_count, pbkdf2_bytes}
+use Rattle.kdf_hmac.specs.Progress.{Filled, block}
 use Rattle.kdf_hmac.proofs.Turns.{length-t}
 
 -- ---- lists of one length, joined
@@ -32,11 +33,7 @@ length-joined f n (suc k) each =
 -- ---- lists of n elements, put one after another into a list of l elements
 
 module _ (f : ℕ → List ℕ) (n l : ℕ) where
-  -- the first i of them stand in out, as far as it goes
-  pub record Filled (out : List ℕ) (i : ℕ) : Type 0 where
-    pub front : take (min (n * i) l) out ≡ take l (joined f i)
-
-  pub filled_none : (out : List ℕ) → Filled out 0
+  pub filled_none : (out : List ℕ) → Filled f n l out 0
   unfolding joined
   filled_none out =
       let nothing : min (n * 0) l ≡ 0 = omega arith in
@@ -56,9 +53,9 @@ module _ (f : ℕ → List ℕ) (n l : ℕ) where
       ∙ take_min rest (take n block)
       ∙ ap (take rest) block_is
 
-  pub filled_more : (out block piece : List ℕ) (i e : ℕ) → ((j : ℕ) → length (f j) ≡ n) → Filled out i → length out ≡ l
+  pub filled_more : (out block piece : List ℕ) (i e : ℕ) → ((j : ℕ) → length (f j) ≡ n) → Filled f n l out i → length out ≡ l
       → take n block ≡ f i → n * i < l → e ≡ min l (n * i + n) → piece ≡ take (e - n * i) block
-      → Filled (put_mid (n * i) (e - n * i) out piece) (i + 1)
+      → Filled f n l (put_mid (n * i) (e - n * i) out piece) (i + 1)
   filled_more out block piece i e each before whole block_is inside end piece_is =
       let rest = l - n * i in
       let part : piece ≡ take rest (f i) = next_part block piece i e (each i) block_is inside end piece_is in
@@ -79,10 +76,15 @@ module _ (f : ℕ → List ℕ) (n l : ℕ) where
             ∙ ap (take l) (sym (joined_more f i));
       }
 
-  pub filled_all : (out : List ℕ) (k : ℕ) → length out ≡ l → l ≤ n * k → Filled out k → out ≡ take l (joined f k)
+  pub filled_all : (out : List ℕ) (k : ℕ) → length out ≡ l → l ≤ n * k → Filled f n l out k → out ≡ take l (joined f k)
   filled_all out k whole enough done =
       let all : min (n * k) l ≡ l = omega (arith, enough) in
       sym (take_all l out (omega (arith, whole))) ∙ ap (λ (j : ℕ). take j out) (sym all) ∙ done.front
+
+-- the lengths, written otherwise
+pub filled_as : (f : ℕ → List ℕ) (n m l k : ℕ) (out : List ℕ) (i : ℕ) → n ≡ m → l ≡ k → Filled f n l out i → Filled f m k out i
+filled_as f n m l k out i e h before =
+    subst (λ (x : ℕ). Filled f m x out i) h (subst (λ (x : ℕ). Filled f x l out i) e before)
 
 -- ---- how many blocks there are, where the output has l bytes
 
@@ -94,29 +96,32 @@ pub blocks_suffice : (prf : Prf) (l : ℕ) → l ≤ output_length prf * block_c
 blocks_suffice Sha512 l = omega arith
 blocks_suffice Sha256 l = omega arith
 
--- ---- the blocks of PBKDF2, whose lengths the code has as n
+-- a block takes c turns
+one_left : (m c : ℕ) → 1 ≤ m → c ≤ m * c
+one_left zero c some = absurd (omega (arith, some))
+one_left (suc m) c some = omega arith
 
-abbrev pub block : Prf → List ℕ → List ℕ → ℕ → ℕ → List ℕ
-block prf p s c k = t prf p s c (k + 1)
+-- after i of m blocks and j turns of the next, none is left: all blocks are done
+pub all_done : (m c i j : ℕ) → i ≤ m → j < c → (m - i) * c - j ≡ 0 → i ≡ m
+all_done m c i j within short none = grind (arith, within, short, none, one_left (m - i) c)
 
-module _ (prf : Prf) (p s : List ℕ) (c l n : ℕ) (n_is : n ≡ output_length prf) where
-  pub blocks_as_long : (j : ℕ) → length (block prf p s c j) ≡ n
-  blocks_as_long j = length-t prf p s (j + 1) c ∙ sym n_is
+-- ---- the blocks of PBKDF2
 
-  pub count_is : (l + n - 1) / n ≡ block_count prf l
-  count_is = ap (λ (k : ℕ). (l + k - 1) / k) n_is
+pub blocks_as_long : (prf : Prf) (p s : List ℕ) (c j : ℕ) → length (block prf p s c j) ≡ output_length prf
+blocks_as_long prf p s c j = length-t prf p s (j + 1) c
 
-  pub start_inside : (i : ℕ) → i < (l + n - 1) / n → n * i < l
-  start_inside i before =
-      let inside = block_starts prf l i (omega (arith, before, count_is)) in
-      let start : n * i ≡ output_length prf * i = ap (λ (k : ℕ). k * i) n_is in
-      omega (arith, inside, start)
+pub all_bytes : (prf : Prf) (p s : List ℕ) (c l : ℕ) (out : List ℕ) (i : ℕ) → length out ≡ l → i ≡ block_count prf l
+    → Filled (block prf p s c) (output_length prf) l out i → out ≡ pbkdf2_bytes prf p s c l
+unfolding pbkdf2_bytes
+all_bytes prf p s c l out i whole last done =
+    let n = output_length prf in
+    let bytes : n * i ≡ n * block_count prf l = ap (λ (k : ℕ). n * k) last in
+    let enough : l ≤ n * i = omega (arith, bytes, blocks_suffice prf l) in
+    filled_all (block prf p s c) n l out i whole enough done ∙ ap (λ (k : ℕ). take l (joined (block prf p s c) k)) last
 
-  pub all_bytes : (out : List ℕ) (i : ℕ) → length out ≡ l → i ≡ (l + n - 1) / n → Filled (block prf p s c) n l out i
-      → out ≡ pbkdf2_bytes prf p s c l
-  unfolding pbkdf2_bytes
-  all_bytes out i whole last done =
-      let count : i ≡ block_count prf l = last ∙ count_is in
-      let bytes : n * i ≡ output_length prf * block_count prf l = ap₂ ◌*◌ n_is count in
-      let enough : l ≤ n * i = omega (arith, bytes, blocks_suffice prf l) in
-      filled_all (block prf p s c) n l out i whole enough done ∙ ap (λ (k : ℕ). take l (joined (block prf p s c) k)) count
+-- the count, where the code has the length of a block as n
+pub count_is : (prf : Prf) (l n : ℕ) → n ≡ output_length prf → (l + n - 1) / n ≡ block_count prf l
+count_is prf l n n_is = ap (λ (k : ℕ). (l + k - 1) / k) n_is
+
+pub start_inside : (prf : Prf) (l n i : ℕ) → n ≡ output_length prf → i < (l + n - 1) / n → output_length prf * i < l
+start_inside prf l n i n_is before = block_starts prf l i (omega (arith, before, count_is prf l n n_is))

@@ -2,8 +2,8 @@
 --
 -- T over one more turn is T over the turns before it, with that turn's U. The code keeps each U and the sum
 -- in a field of 64 bytes, and only the first bytes of a field count.
-use Rattle.std.proofs.Common.{◌≡◌, ℕ, zero, suc, ◌+◌, List, length, take, map, replicate}
-use Rattle.std.proofs.Common.{refl, sym, ap, ap₂, ◌∙◌, arith, add-one}
+use Rattle.std.proofs.Common.{◌≡◌, ◌≤◌, ℕ, zero, suc, ◌+◌, List, length, take, map, replicate}
+use Rattle.std.proofs.Common.{refl, sym, ap, ap₂, ◌∙◌, subst, arith, add-one}
 use Rattle.std.specs.List.{fold, range_with_len}
 use Rattle.std.proofs.lemmas.List.{length-replicate}
 use Rattle.std.proofs.lemmas.List.Sums.{fold_push}
@@ -12,6 +12,7 @@ use Rattle.vc_base.specs.Bytes.{xor_bytes}
 use Rattle.kdf_hmac.specs.declared.prf.Prf.{Prf}
 use Rattle.kdf_hmac.specs.Hmac.{hmac_of, output_length, padded}
 use Rattle.kdf_hmac.specs.Pbkdf2.{u, t}
+use Rattle.kdf_hmac.specs.Progress.{Turned}
 use Rattle.kdf_hmac.proofs.Keys.{length-hmac_of, take-padded}
 use Rattle.kdf_hmac.proofs.Xors.{length-xor_bytes, take-xor_bytes, xor_bytes-zeros}
 
@@ -56,12 +57,11 @@ module _ (prf : Prf) (p s : List ℕ) (i : ℕ) where
 
   -- ---- as the code has them
 
-  -- the fields of the code and of the sum hold U_j and the exclusive or of U_1 to U_j
-  pub record Turned (code sum : List ℕ) (j : ℕ) : Type 0 where
-    pub code_is : take (output_length prf) code ≡ u prf p s i j
-    pub sum_is : take (output_length prf) sum ≡ t prf p s j i
+  -- nothing is said before the first turn
+  pub turned_none : (code sum : List ℕ) → 1 ≤ 0 → Turned prf p s i code sum 0
+  turned_none code sum some = absurd (omega (arith, some))
 
-  pub turned_one : (code : List ℕ) → code ≡ padded prf (hmac_of prf p (u prf p s i 0)) → Turned code code 1
+  pub turned_one : (code : List ℕ) → code ≡ padded prf (hmac_of prf p (u prf p s i 0)) → Turned prf p s i code code 1
   turned_one code is =
       let first : take (output_length prf) code ≡ u prf p s i 1
       = ap (take (output_length prf)) is
@@ -69,9 +69,9 @@ module _ (prf : Prf) (p s : List ℕ) (i : ℕ) where
       ∙ sym (u_more 0) in
       record { code_is = first; sum_is = first ∙ sym t_one }
 
-  pub turned_more : (code sum next both : List ℕ) (j : ℕ) → Turned code sum j
+  pub turned_more : (code sum next both : List ℕ) (j : ℕ) → Turned prf p s i code sum j
       → next ≡ padded prf (hmac_of prf p (take (output_length prf) code)) → both ≡ xor_bytes sum next
-      → Turned next both (j + 1)
+      → Turned prf p s i next both (j + 1)
   turned_more code sum next both j before next_is both_is =
       let n = output_length prf in
       let last : take n next ≡ u prf p s i (j + 1)
@@ -82,3 +82,7 @@ module _ (prf : Prf) (p s : List ℕ) (i : ℕ) where
         sum_is =
             ap (take n) both_is ∙ take-xor_bytes n sum next ∙ ap₂ xor_bytes before.sum_is last ∙ sym (t_more j);
       }
+
+  -- the count of turns, written otherwise
+  pub turned_at : (code sum : List ℕ) (j k : ℕ) → j ≡ k → Turned prf p s i code sum j → Turned prf p s i code sum k
+  turned_at code sum j k e = subst (λ (m : ℕ). Turned prf p s i code sum m) e

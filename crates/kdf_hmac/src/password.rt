@@ -46,4 +46,14 @@ impl Password {
     {
         &self.buffer[..self.len]
     }
+
+    // A second password with these bytes.
+    pub(crate) fn copied(&self) -> Password
+        ensures { result ≡ self.now }
+    {
+        Password {
+            buffer: self.buffer,
+            len: self.len,
+        }
+    }
 }

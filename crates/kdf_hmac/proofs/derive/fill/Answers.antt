@@ -1,31 +1,43 @@
-use Rattle.std.proofs.Common.{◌≡◌, take, length, ap, ◌∙◌, arith}
+use Rattle.std.proofs.Common.{◌+◌, length, refl, sym, arith, zero-add}
 use Rattle.kdf_hmac.specs.Hmac.{output_length}
-use Rattle.kdf_hmac.proofs.Blocks.{block, blocks_as_long, start_inside, filled_none, filled_more, all_bytes}
+use Rattle.kdf_hmac.specs.Progress.{block}
+use Rattle.kdf_hmac.proofs.Blocks.{count_is, start_inside, filled_none, filled_as, all_bytes}
+use Rattle.kdf_hmac.proofs.Turns.{turned_none, turned_at}
 use Rattle.kdf_hmac.proofs.derive.fill.Goals as goal
 
 pub pieces-init : goal.pieces-init
 pieces-init g c =
-    filled_none (block g.H.Hasher.prf c.args.password.now c.args.salt.now c.args.iterations) c.output_length-length.result
+    filled_none (block g.H.Hasher.prf c.args.password.now c.args.salt.now c.args.iterations) (output_length g.H.Hasher.prf)
     (length c.args.out.now) c.args.out.now
+
+pub put_block-requires : goal.put_block-requires
+put_block-requires g c =
+    let inside = start_inside g.H.Hasher.prf (length c.args.out.now) c.output_length-length.result c.pieces.i c.output_length-length.ensures
+    (omega arith) in
+    omega (arith, inside, c.pieces.auto.out)
 
 pub pieces-preserved : goal.pieces-preserved
 pieces-preserved g c =
     let prf = g.H.Hasher.prf in
+    let n = output_length prf in
     let p = c.args.password.now in
     let s = c.args.salt.now in
+    let f = block prf p s c.args.iterations in
     let l = length c.args.out.now in
-    let n = c.output_length-length.result in
-    let n_is = c.output_length-length.ensures in
-    let code = c.block-block.result in
-    let cut : take n code ≡ take (output_length prf) code = ap (λ k. take k code) n_is in
-    let next : take n code ≡ block prf p s c.args.iterations c.pieces.i
-    = cut ∙ c.block-block.ensures p c.new-key.ensures in
-    filled_more (block prf p s c.args.iterations) n l c.pieces.out c.block-block.result c.copy_from_slice.new.self c.pieces.i
-    c.min-end.result (blocks_as_long prf p s c.args.iterations l n n_is) c.pieces.invariant c.pieces.auto.out next
-    (start_inside prf p s c.args.iterations l n n_is c.pieces.i c.pieces-test.true) (omega arith) c.copy_from_slice.ensures.after
+    let k = length c.pieces.out in
+    let same = c.pieces.auto.out in
+    let none = turned_none prf p s (c.pieces.i + 1) c.new.result.code c.new.result.sum in
+    let block = c.block_after-block.result in
+    let turned = c.block_after-block.ensures p c.new-key.ensures none in
+    let last = turned_at prf p s (c.pieces.i + 1) block.code block.sum (0 + c.args.iterations) c.args.iterations
+    (zero-add c.args.iterations) turned in
+    filled_as f n n k l c.put_block.new.out (c.pieces.i + 1) refl same
+    (c.put_block.ensures p s c.args.iterations last.sum_is
+    (filled_as f n n l k c.pieces.out c.pieces.i refl (sym same) c.pieces.invariant))
 
 pub returns : goal.returns
 returns g c =
-    all_bytes g.H.Hasher.prf c.args.password.now c.args.salt.now c.args.iterations (length c.args.out.now)
-    c.output_length-length.result c.output_length-length.ensures c.pieces.out c.pieces.i c.pieces.auto.out (omega arith)
-    c.pieces.invariant
+    let n_is = c.output_length-length.ensures in
+    let l = length c.args.out.now in
+    all_bytes g.H.Hasher.prf c.args.password.now c.args.salt.now c.args.iterations l c.pieces.out c.pieces.i c.pieces.auto.out
+    (omega (arith, count_is g.H.Hasher.prf l c.output_length-length.result n_is)) c.pieces.invariant

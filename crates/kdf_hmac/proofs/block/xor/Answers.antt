@@ -1,6 +1,6 @@
 use Rattle.std.proofs.Common.{arith}
 use Rattle.kdf_hmac.proofs.Xors.{xor_of_elements}
-use Rattle.kdf_hmac.proofs.derive.xor.Goals as goal
+use Rattle.kdf_hmac.proofs.block.xor.Goals as goal
 
 pub returns : goal.returns
 returns c =

@@ -1,5 +1,5 @@
 use Rattle.std.proofs.Common.{◌≡◌, ℕ, ◌<◌, length, get_or, bit_xor}
-use Rattle.kdf_hmac.proofs.derive.xor.Given as goal
+use Rattle.kdf_hmac.proofs.block.xor.Given as goal
 
 abbrev pub invariant-bytes : goal.invariant-bytes
 invariant-bytes l =
