@@ -1,6 +1,10 @@
+-- the algorithms, their names and ciphers
+pub mod Algorithms
 -- data units and header bodies under an algorithm
 pub mod Cascade
--- the laws of the cipher of data units
+-- its layers one by one
+pub mod Layers
+-- the laws of a cipher of stretches
 pub mod Laws
 -- the plain volume
 pub mod Volume

@@ -1,4 +1,6 @@
--- facts about a body, carried to what it equals
-pub mod Bodies
--- the first valid candidate
-pub mod First
+-- what holds of a body holds of what equals it
+mod Bodies
+-- the first element that passes a test
+mod Finding
+-- opening gives the first valid candidate
+mod First

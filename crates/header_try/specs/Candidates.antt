@@ -13,11 +13,10 @@
 use Rattle.std.specs.Prelude.{◌≡◌, ℕ, Bool, true, false, List, [], ◌∷◌, length, take, drop, map, filter, find, Option, Some}
 use Rattle.std.specs.List.{flat_map}
 use Rattle.kdf_hmac.specs.declared.prf.Prf.{Prf}
-use Rattle.kdf_hmac.specs.declared.prf.Prf.TheVariants.{Sha512}
+use Rattle.kdf_hmac.specs.Prfs.{all_prfs}
 use Rattle.kdf_hmac.specs.Pbkdf2.{derived}
 use Rattle.cascade_set.specs.declared.algorithm.Algorithm.{Algorithm}
-use Rattle.cascade_set.specs.declared.algorithm.Algorithm.TheVariants.{Aes}
-use Rattle.cascade_set.specs.declared.algorithm.Keys.{Keys}
+use Rattle.cascade_set.specs.Algorithms.{all_algorithms}
 use Rattle.cascade_set.specs.Cascade.{deciphered}
 use Rattle.vc_layout.specs.Layout.{place_of}
 use Rattle.vc_layout.specs.declared.slots.Slot.{Slot}
@@ -41,23 +40,21 @@ slots_of AnyBackup = BackupStandard ∷ BackupHidden ∷ []
 slots_of StandardBackup = BackupStandard ∷ []
 slots_of HiddenBackup = BackupHidden ∷ []
 
--- So far one slot, one PRF and one algorithm are built.
+-- So far one slot is built.
 abbrev pub is_built_slot : Slot → Bool
 is_built_slot Standard = true
 is_built_slot Hidden = false
 is_built_slot BackupStandard = false
 is_built_slot BackupHidden = false
 
-abbrev pub built_prfs : List Prf
-built_prfs = Sha512 ∷ []
-
-abbrev pub built_algorithms : List Algorithm
-built_algorithms = Aes ∷ []
+-- the candidates of a slot and a PRF
+abbrev pub candidates_of : Slot → Prf → List Candidate
+candidates_of slot prf =
+    map (λ algorithm. record { slot = slot; prf = prf; algorithm = algorithm }) all_algorithms
 
 abbrev pub candidates : Kind → List Candidate
 candidates kind =
-    flat_map (λ slot. flat_map (λ prf. map (λ algorithm. record { slot = slot; prf = prf; algorithm = algorithm })
-    built_algorithms) built_prfs) (filter is_built_slot (slots_of kind))
+    flat_map (λ slot. flat_map (candidates_of slot) all_prfs) (filter is_built_slot (slots_of kind))
 
 abbrev pub header_at : Slot → List ℕ → List ℕ
 header_at slot image = take 512 (drop (place_of slot (length image)) image)
@@ -80,6 +77,10 @@ plain_by prf algorithm password pim header =
 
 abbrev pub plain_body : Candidate → List ℕ → List ℕ → ℕ → List ℕ
 plain_body c image password pim = plain_by c.prf c.algorithm password pim (header_at c.slot image)
+
+-- the candidate is valid by its slot's header, in a container of len bytes
+abbrev pub is_valid_under : List ℕ → ℕ → List ℕ → ℕ → Candidate → Bool
+is_valid_under header len password pim c = is_valid (plain_by c.prf c.algorithm password pim header) c.slot len
 
 abbrev pub is_valid_in : Candidate → List ℕ → List ℕ → ℕ → Bool
 is_valid_in c image password pim = is_valid (plain_body c image password pim) c.slot (length image)

@@ -1,8 +1,8 @@
 //! Opening: which header a password makes valid.
 //!
 //! A candidate is a slot with a PRF and an algorithm. Opening tries the candidates of a kind in their
-//! order and gives the first valid one. A slot is read once, and a PRF is derived once for it. So far one
-//! candidate is built: the standard slot with SHA-512 and AES. It takes no memory and changes no byte of
+//! order and gives the first valid one. A slot is read once, and each PRF is derived once for it, never once
+//! for each algorithm. So far the standard slot is built. It takes no memory and changes no byte of
 //! the container.
 //!
 //! `docs/FORMAT.md`, "Opening", has the order of the candidates.

@@ -1,19 +1,18 @@
 //! Opening over a store.
-ghost use Rattle.std.specs.Prelude.{◌≡◌, ◌≤◌, ◌↔◌, ◌≢◌, ℕ, List, [], ◌∷◌, IsSome, IsTrue, IfSome, IfOk, OnOk, Err, None, IsErrOf, Contains, MatchBool, take};
+ghost use Rattle.std.specs.Prelude.{◌≡◌, ◌≤◌, ◌≢◌, ℕ, [], IfSome, IfOk, OnOk, Err, None, IsErrOf, Contains, MatchBool, take, find, option_map};
+ghost use Rattle.std.specs.List.{flat_map};
 ghost use Rattle.vc_base.specs.Faults.{HasCause};
 ghost use Rattle.vc_layout.specs.Layout.{IsContainerLength};
 ghost use Rattle.vc_layout.specs.declared.slots.Slot.TheVariants.{Standard};
-ghost use Rattle.cascade_set.specs.declared.algorithm.Algorithm.TheVariants.{Aes};
-ghost use Rattle.kdf_hmac.specs.declared.prf.Prf.TheVariants.{Sha512};
+ghost use Rattle.kdf_hmac.specs.Prfs.{all_prfs};
 ghost use Rattle.kdf_hmac.specs.Pbkdf2.{derived};
-ghost use Rattle.vc_header.specs.Header.{fields_of, is_valid, Meets, Valid};
-ghost use Rattle.header_try.specs.Candidates.{candidates, first, IsFirst, plain_by, slots_of};
+ghost use Rattle.vc_header.specs.Header.{fields_of, Meets};
+ghost use Rattle.header_try.specs.Candidates.{candidate_of, candidates, candidates_of, first, IsFirst, is_valid_under, plain_by, slots_of};
 
 use crate::kind::{Kind, OpenError, Opened};
 use crate::slot::try_slot;
-use cascade_set::Algorithm;
 use kdf_hmac::{Password, Prf, iterations, pbkdf2};
-use vc_header::{HEADER, SALT, validity_is_decided};
+use vc_header::{HEADER, SALT};
 use vc_layout::{Slot, is_container_length, slot_at};
 use vc_outside::Store;
 
@@ -40,7 +39,6 @@ pub fn open_plain<D: Store>(
     // What holds over every store.
     ensures in_range { OnOk result (IsContainerLength (D.size disk.old)) }
     ensures slot { IfOk result (λ o. Contains (slots_of kind) o.slot) }
-    ensures built { IfOk result (λ o. o.algorithm ≡ Algorithm.Aes) }
     ensures meets { IfOk result (λ o. Meets o.fields o.slot (D.size disk.old)) }
 
     // Nothing of the container changes.
@@ -58,19 +56,35 @@ pub fn open_plain<D: Store>(
     let Ok(()) = disk.read_at(slot_at(Slot::Standard, len), &mut header) else {
         return Err(OpenError::ReadFault);
     };
-    match try_prf(Prf::Sha512, p, pim, &header, Slot::Standard, len) {
+    match try_header(p, pim, &header, Slot::Standard, len) {
         Some(opened) => Ok(opened),
         None => Err(OpenError::NoHeader),
     }
 }
 
-// The standard slot is the only one that is built so far, with one candidate.
+// The standard slot is the only one that is built so far.
 fn tries_standard(kind: Kind) -> bool
     ensures candidates { MatchBool result
-        (candidates kind ≡ record { slot = Standard; prf = Sha512; algorithm = Aes } ∷ []) (candidates kind ≡ []) }
+        (candidates kind ≡ flat_map (candidates_of Standard) all_prfs) (candidates kind ≡ []) }
     ensures slot { MatchBool result (Contains (slots_of kind) Standard) (Unit {0}) }
 {
     matches!(kind, Kind::Any | Kind::StandardOnly)
+}
+
+// The first valid candidate of a slot, by its header.
+fn try_header(p: &Password, pim: u32, header: &[u8; 512], slot: Slot, len: u64) -> Option<Opened>
+    requires pim { pim ≤ 2147468 }
+    requires len { 262656 ≤ len }
+    ensures first { option_map candidate_of result
+        ≡ find (is_valid_under header.now len p.now pim) (flat_map (candidates_of slot) all_prfs) }
+    ensures fields { IfSome result (λ o. o.fields ≡ fields_of (plain_by o.prf o.algorithm p.now pim header.now)) }
+    ensures slot { IfSome result (λ o. o.slot ≡ slot) }
+    ensures meets { IfSome result (λ o. Meets o.fields slot len) }
+{
+    match try_prf(Prf::Sha512, p, pim, header, slot, len) {
+        Some(opened) => Some(opened),
+        None => try_prf(Prf::Sha256, p, pim, header, slot, len),
+    }
 }
 
 // The first valid candidate with this slot and PRF.
@@ -84,14 +98,12 @@ fn try_prf(
 ) -> Option<Opened>
     requires pim { pim ≤ 2147468 }
     requires len { 262656 ≤ len }
-    ensures valid { IsSome result ↔ Valid (plain_by prf Aes p.now pim header.now) slot len }
-    ensures decided { IsSome result ↔ IsTrue (is_valid (plain_by prf Aes p.now pim header.now) slot len) }
+    ensures first { option_map candidate_of result
+        ≡ find (is_valid_under header.now len p.now pim) (candidates_of slot prf) }
+    ensures fields { IfSome result (λ o. o.fields ≡ fields_of (plain_by o.prf o.algorithm p.now pim header.now)) }
     ensures slot { IfSome result (λ o. o.slot ≡ slot) }
-    ensures prf { IfSome result (λ o. o.prf ≡ prf) }
-    ensures built { IfSome result (λ o. o.algorithm ≡ Algorithm.Aes) }
-    ensures fields { IfSome result (λ o. o.fields ≡ fields_of (plain_by prf Aes p.now pim header.now)) }
+    ensures meets { IfSome result (λ o. Meets o.fields slot len) }
 {
-    validity_is_decided();
     let derived = derive(prf, p, pim, header);
     match try_slot(&derived, header, slot, len) {
         Some((algorithm, fields)) => Some(Opened {

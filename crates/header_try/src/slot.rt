@@ -1,15 +1,19 @@
 //! One slot's header under derived keys.
-ghost use Rattle.std.specs.Prelude.{◌≡◌, ◌≤◌, ◌↔◌, IsSome, IfSome};
+ghost use Rattle.std.specs.Prelude.{◌≡◌, ◌≤◌, ◌↔◌, ◌<◌, IsSome, IfSome, IsTrue, IsNone, Option, None, find, option_map, take};
 ghost use Rattle.cascade_set.specs.declared.algorithm.Algorithm.{Algorithm};
-ghost use Rattle.vc_header.specs.Header.{fields_of, Valid};
+ghost use Rattle.cascade_set.specs.Algorithms.{all_algorithms};
+ghost use Rattle.vc_header.specs.Header.{fields_of, is_valid, Valid};
 ghost use Rattle.header_try.specs.Candidates.{plain_under};
 
 use cascade_set::{Algorithm, Keyed, Keys};
-use vc_header::{Fields, SALT, read_plain};
+use vc_header::{Fields, SALT, read_plain, validity_is_decided};
 use vc_layout::Slot;
 
+/// The number of algorithms.
+const ALGORITHMS: u8 = 8;
+
 /// The least algorithm under which a slot's header is valid with these derived keys, with its fields, in a
-/// container of `len` bytes. The algorithm built so far is AES.
+/// container of `len` bytes. None where there is none.
 pub fn try_slot(
     derived: &[u8; 192],
     header: &[u8; 512],
@@ -17,24 +21,45 @@ pub fn try_slot(
     len: u64,
 ) -> Option<(Algorithm, Fields)>
     requires { 262656 ≤ len }
-    ensures valid { IsSome result ↔ Valid (plain_under Algorithm.Aes derived.now header.now) slot len }
-    ensures algorithm { IfSome result (λ x. x.0 ≡ Algorithm.Aes) }
-    ensures fields { IfSome result (λ x. x.1 ≡ fields_of (plain_under Algorithm.Aes derived.now header.now)) }
+    ensures least { option_map (λ x. x.0) result
+        ≡ find (λ a. is_valid (plain_under a derived.now header.now) slot len) all_algorithms }
+    ensures valid { IfSome result (λ x. Valid (plain_under x.0 derived.now header.now) slot len) }
+    ensures fields { IfSome result (λ x. x.1 ≡ fields_of (plain_under x.0 derived.now header.now)) }
 {
-    let body = plain(derived, header);
-    match read_plain(&body, slot, len) {
-        Some(fields) => Some((Algorithm::Aes, fields)),
-        None => None,
+    for i in 0..ALGORITHMS {
+        let algorithm = Algorithm::at(i);
+        match try_algorithm(algorithm, derived, header, slot, len) {
+            Some(fields) => return Some((algorithm, fields)),
+            None => {}
+        }
     }
+    None
+}
+
+// The fields of the header, where it is valid under this algorithm.
+fn try_algorithm(
+    algorithm: Algorithm,
+    derived: &[u8; 192],
+    header: &[u8; 512],
+    slot: Slot,
+    len: u64,
+) -> Option<Fields>
+    requires { 262656 ≤ len }
+    ensures decided { IsSome result ↔ IsTrue (is_valid (plain_under algorithm derived.now header.now) slot len) }
+    ensures valid { IfSome result (λ _. Valid (plain_under algorithm derived.now header.now) slot len) }
+    ensures fields { IfSome result (λ f. f ≡ fields_of (plain_under algorithm derived.now header.now)) }
+{
+    validity_is_decided();
+    read_plain(&plain(algorithm, derived, header), slot, len)
 }
 
 // The header's body, deciphered.
 #[tactic(auto, unfolding(crate::specs::Candidates::plain_under))]
-fn plain(derived: &[u8; 192], header: &[u8; 512]) -> [u8; 448]
-    ensures { result ≡ plain_under Algorithm.Aes derived.now header.now }
+fn plain(algorithm: Algorithm, derived: &[u8; 192], header: &[u8; 512]) -> [u8; 448]
+    ensures { result ≡ plain_under algorithm derived.now header.now }
 {
     let keyed = Keyed::new(&Keys {
-        algorithm: Algorithm::Aes,
+        algorithm,
         material: *derived,
     });
     let mut body = [0u8; 448];

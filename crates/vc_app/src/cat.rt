@@ -3,7 +3,6 @@ ghost use Rattle.std.specs.Prelude.{◌≡◌, ◌≢◌, ◌≤◌, ◌+◌, �
 ghost use Rattle.vc_base.specs.Faults.{HasCause};
 ghost use Rattle.vc_layout.specs.Layout.{IsContainerLength};
 ghost use Rattle.vc_outside.specs.Told.{Grows, GrowsByFront};
-ghost use Rattle.cascade_set.specs.declared.algorithm.Algorithm.TheVariants.{Aes};
 ghost use Rattle.cascade_set.specs.Volume.{plain_sectors, plain_units};
 ghost use Rattle.vc_header.specs.Header.{Meets};
 ghost use Rattle.header_try.specs.Candidates.{candidate_of, first};
@@ -104,7 +103,6 @@ fn write_asked<D: Store, O: Sink>(
 ) -> Status
     requires meets { Meets opened.now.fields opened.now.slot (D.size disk.old) }
     requires small { D.size disk.old ≤ 2 ^ 60 }
-    requires built { opened.now.algorithm ≡ Aes }
     ensures done { result ≡ Status.Done → IfSome (D.image disk.old) (λ b.
         Grows (O.contents out.old) (O.contents out.new) (asked_under command.now opened.now.algorithm opened.now.fields b)) }
     ensures front { IfSome (D.image disk.old) (λ b.

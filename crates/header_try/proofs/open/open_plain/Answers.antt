@@ -1,5 +1,5 @@
-use Rattle.header_try.proofs.First.{header_read, length_read, no_candidate, none_valid, is_first}
 use Rattle.std.proofs.Common.{refl}
+use Rattle.header_try.proofs.First.{header_read, length_read, no_candidate, none_valid, is_first}
 use Rattle.header_try.proofs.open.open_plain.Goals as goal
 
 pub returns-then-not-tries_standard-clause-none_valid : goal.returns-then-not-tries_standard-clause-none_valid
@@ -12,12 +12,11 @@ returns-in-Some-clause-opened g c =
     (header_read (g.D.Store.image c.args.disk.now) c.read_at.new.out c.slot_at.result 512 c.slot_at.ensures refl c.in-Ok.ensures.read)
     (length_read (g.D.Store.image c.args.disk.now) (g.D.Store.size c.args.disk.now) c.len-len.result c.len-len.ensures (g.met.D.Store.image_is_whole c.args.disk.now))
     c.if-not-tries_standard.ensures.candidates
-    c.in-Some.ensures.decided c.in-Some.ensures.slot c.in-Some.ensures.prf c.in-Some.ensures.built c.in-Some.ensures.fields
+    c.in-Some.ensures.first c.in-Some.ensures.slot c.in-Some.ensures.fields
 
 pub returns-in-None-clause-none_valid : goal.returns-in-None-clause-none_valid
 returns-in-None-clause-none_valid g c = λ _.
     none_valid (g.D.Store.image c.args.disk.now) c.read_at.new.out c.args.kind c.args.p.now c.args.pim c.len-len.result
     (header_read (g.D.Store.image c.args.disk.now) c.read_at.new.out c.slot_at.result 512 c.slot_at.ensures refl c.in-Ok.ensures.read)
     (length_read (g.D.Store.image c.args.disk.now) (g.D.Store.size c.args.disk.now) c.len-len.result c.len-len.ensures (g.met.D.Store.image_is_whole c.args.disk.now))
-    c.if-not-tries_standard.ensures.candidates
-    c.in-None.ensures.decided
+    c.if-not-tries_standard.ensures.candidates c.in-None.ensures.first

@@ -1,11 +1,11 @@
+use Rattle.cascade_set.specs.Laws.{xts_is_lawful}
 use Rattle.cascade_set.proofs.layer.Layer.new.Goals as goal
 
 pub invariant_of-result : goal.invariant_of-result
 invariant_of-result g c = record {
-  lawful = record {
-    enciphered_is_unit = g.met.C.UnitCipher.enciphered_is_unit c.args.cipher;
-    deciphered_is_unit = g.met.C.UnitCipher.deciphered_is_unit c.args.cipher;
-    deciphers = g.met.C.UnitCipher.deciphers c.args.cipher;
-    enciphers = g.met.C.UnitCipher.enciphers c.args.cipher;
-  };
+  lawful = xts_is_lawful (g.P.BlockCipher.enciphered c.new.result.main) (g.P.BlockCipher.deciphered c.new.result.main)
+      (g.P.BlockCipher.enciphered c.new.result.tweak)
+      (g.met.P.BlockCipher.enciphered_is_block c.new.result.main)
+      (g.met.P.BlockCipher.deciphered_is_block c.new.result.main)
+      (g.met.P.BlockCipher.deciphers c.new.result.main) (g.met.P.BlockCipher.enciphers c.new.result.main);
 }
