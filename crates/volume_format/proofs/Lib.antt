@@ -1,0 +1,14 @@
+-- the random stream, drawn in parts
+mod Draws
+-- bytes written over a list
+mod Writes
+-- the fill, part by part
+mod Parts
+-- a header's body, enciphered and deciphered again
+mod Bodies
+-- the image of a formatted container
+mod Images
+-- opening a formatted container
+mod Opening
+-- from what each step makes to what the image is
+mod Making

@@ -1,0 +1,148 @@
+-- Opening a formatted container.
+--
+-- The candidates of the standard slot stand in the order of their numbers. So the first that is
+-- valid is one that is known to be valid, or stands before it.
+use Rattle.std.proofs.Common.{◌≡◌, ◌<◌, ◌≤◌, ◌⊎◌, inl, inr, ℕ, zero, suc, ◌+◌, ◌*◌, Bool, true, false, List, [], ◌∷◌, Option, Some, refl, ap, ◌∙◌, arith}
+use Rattle.std.specs.Prelude.{find, slice_get, unwrap_or, if◌then◌else◌}
+use Rattle.kdf_hmac.specs.declared.prf.Prf.{Prf}
+use Rattle.kdf_hmac.specs.declared.prf.Prf.TheVariants.{Sha512, Sha256}
+use Rattle.cascade_set.specs.Algorithms.{number_of}
+use Rattle.cascade_set.specs.declared.algorithm.Algorithm.{Algorithm}
+use Rattle.cascade_set.specs.declared.algorithm.Algorithm.TheVariants.{Aes, Serpent, Twofish, AesTwofish, AesTwofishSerpent, SerpentAes, SerpentTwofishAes, TwofishSerpent}
+use Rattle.vc_layout.specs.declared.slots.Slot.TheVariants.{Standard}
+use Rattle.vc_header.specs.declared.fields.Fields.{Fields}
+use Rattle.header_try.specs.declared.kind.Kind.TheVariants.{StandardOnly}
+use Rattle.header_try.specs.Candidates.{Candidate, candidates, fields_in, first, is_valid_in}
+use Rattle.volume_format.specs.Opens.{asked, order_of, prf_order, Opens}
+use Rattle.volume_format.specs.declared.outer.FormatSpec.{FormatSpec}
+
+-- the orders of these candidates are n, n + 1, and so on
+abbrev Ordered : ℕ → List Candidate → Type 0
+Ordered n [] = Unit {0}
+Ordered n (c ∷ cs) = (order_of c ≡ n) × Ordered (suc n) cs
+
+in_order : Ordered 0 (candidates StandardOnly)
+in_order = (
+  refl,
+  (
+    refl,
+    (
+      refl,
+      (
+        refl,
+        (
+          refl,
+          (
+            refl,
+            (
+              refl,
+              (
+                refl,
+                (
+                  refl,
+                  (
+                    refl,
+                    (
+                      refl,
+                      (
+                        refl,
+                        (refl, (refl, (refl, (refl, tt)))),
+                      ),
+                    ),
+                  ),
+                ),
+              ),
+            ),
+          ),
+        ),
+      ),
+    ),
+  ),
+)
+
+some_same : {x y : Candidate} → Some x ≡ Some y → x ≡ y
+some_same {x} {y} e = ap (λ (r : Option Candidate). unwrap_or r x) e
+
+-- one of them has at least the first one's order
+order_from : (n : ℕ) (cs : List Candidate) (i : ℕ) (x : Candidate) → Ordered n cs
+    → slice_get cs i ≡ Some x → n ≤ order_of x
+order_from n [] i x ordered at = absurd (cc at)
+order_from n (c ∷ cs) zero x ordered at = omega (arith, ordered.0, ap order_of (some_same at))
+order_from n (c ∷ cs) (suc i) x ordered at = omega (arith, order_from (suc n) cs i x ordered.1 at)
+
+-- the first that passes, where x is one that does
+pub record Found (t : Candidate → Bool) (cs : List Candidate) (x : Candidate) : Type 0 where
+  pub candidate : Candidate
+  pub is_first : find t cs ≡ Some candidate
+  pub which : (candidate ≡ x) ⊎ (order_of candidate < order_of x)
+
+-- the first of them passes, or it is found later
+by_test : (t : Candidate → Bool) (c : Candidate) (cs : List Candidate) (x : Candidate) (b : Bool)
+    → t c ≡ b → order_of c < order_of x
+    → Found t cs x → Found t (c ∷ cs) x
+by_test t c cs x true e before later = record {
+  candidate = c;
+  is_first = ap (λ (b : Bool). if b then Some c else find t cs) e;
+  which = inr before;
+}
+by_test t c cs x false e before later = record {
+  candidate = later.candidate;
+  is_first = ap (λ (b : Bool). if b then Some c else find t cs) e ∙ later.is_first;
+  which = later.which;
+}
+
+found : (t : Candidate → Bool) (n : ℕ) (cs : List Candidate) (i : ℕ) (x : Candidate)
+    → Ordered n cs → slice_get cs i ≡ Some x → t x ≡ true → Found t cs x
+found t n [] i x ordered at passes = absurd (cc at)
+found t n (c ∷ cs) zero x ordered at passes = record {
+  candidate = c;
+  is_first = ap (λ (b : Bool). if b then Some c else find t cs) (ap t (some_same at) ∙ passes);
+  which = inl (some_same at);
+}
+found t n (c ∷ cs) (suc i) x ordered at passes =
+    by_test t c cs x (t c) refl (omega (arith, ordered.0, order_from (suc n) cs i x ordered.1 at))
+    (found t (suc n) cs i x ordered.1 at passes)
+
+-- the asked candidate is one of them
+asked_at : (prf : Prf) (a : Algorithm)
+    → slice_get (candidates StandardOnly) (8 * prf_order prf + number_of a) ≡ Some
+    (record { slot = Standard; prf = prf; algorithm = a })
+asked_at Sha512 Aes = refl
+asked_at Sha512 Serpent = refl
+asked_at Sha512 Twofish = refl
+asked_at Sha512 AesTwofish = refl
+asked_at Sha512 AesTwofishSerpent = refl
+asked_at Sha512 SerpentAes = refl
+asked_at Sha512 SerpentTwofishAes = refl
+asked_at Sha512 TwofishSerpent = refl
+asked_at Sha256 Aes = refl
+asked_at Sha256 Serpent = refl
+asked_at Sha256 Twofish = refl
+asked_at Sha256 AesTwofish = refl
+asked_at Sha256 AesTwofishSerpent = refl
+asked_at Sha256 SerpentAes = refl
+asked_at Sha256 SerpentTwofishAes = refl
+asked_at Sha256 TwofishSerpent = refl
+
+pub opens : (spec : FormatSpec) (f : Fields) (image : List ℕ)
+    → is_valid_in (asked spec) image spec.password spec.pim ≡ true
+    → fields_in (asked spec) image spec.password spec.pim ≡ f
+    → Opens spec f image
+unfolding first
+opens spec f image valid fields =
+    let r : Found (λ c. is_valid_in c image spec.password spec.pim) (candidates StandardOnly)
+    (asked spec)
+    = found (λ c. is_valid_in c image spec.password spec.pim) 0 (candidates StandardOnly)
+    (order_of (asked spec)) (asked spec)
+    in_order (asked_at spec.prf spec.algorithm) valid in
+    record {
+      candidate = r.candidate;
+      is_first = r.is_first;
+      which = elim r.which [
+        | inl e ↦ inl (record {
+          candidate = e;
+          fields = ap (λ (c : Candidate). fields_in c image spec.password spec.pim) e ∙ fields;
+        })
+        | inr before ↦ inr before
+      ];
+    }

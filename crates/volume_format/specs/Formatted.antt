@@ -1,0 +1,62 @@
+-- A formatted container with an outer volume. docs/FORMAT.md, "Formatting", has the picture.
+--
+-- The image is random bytes, but for the bodies of the standard header and of its backup. Each header's salt
+-- is the random bytes that stand in its slot, and the master keys are the random bytes after the image.
+--
+-- outer_fields spec material    the fields of both headers
+-- formatted g spec              the image that formatting makes, from the random stream of g
+-- Carries image slot spec f     the slot's body deciphers, under the spec's password, PIM, PRF and algorithm,
+--                               to the body that is written for the fields f
+use Rattle.std.specs.Prelude.{◌≡◌, ℕ, ◌+◌, ◌-◌, ◌*◌, List, ◌++◌, length, replicate}
+use Rattle.kdf_hmac.specs.Pbkdf2.{derived}
+use Rattle.cascade_set.specs.Algorithms.{ciphers_of}
+use Rattle.cascade_set.specs.Cascade.{enciphered}
+use Rattle.vc_layout.specs.Layout.{place_of}
+use Rattle.vc_layout.specs.declared.slots.Slot.{Slot}
+use Rattle.vc_layout.specs.declared.slots.Slot.TheVariants.{Standard, BackupStandard}
+use Rattle.vc_header.specs.Header.{body_of}
+use Rattle.vc_header.specs.declared.fields.Fields.{Fields}
+use Rattle.vc_outside.specs.Told.{written}
+use Rattle.header_try.specs.Candidates.{header_at, plain_by, salt_of}
+use Rattle.rand_chacha.specs.ChaCha.{ChaCha}
+use Rattle.volume_format.specs.Stream.{stream_bytes}
+use Rattle.volume_format.specs.declared.outer.FormatSpec.{FormatSpec}
+
+-- the count of bytes that the keys of an algorithm take: two keys of 32 bytes for each cipher
+abbrev pub key_bytes : FormatSpec → ℕ
+key_bytes spec = 64 * length (ciphers_of spec.algorithm)
+
+-- the master keys, in the 192 bytes that a header has for them
+abbrev pub material_of : ChaCha → FormatSpec → List ℕ
+material_of g spec = stream_bytes g spec.size (key_bytes spec) ++ replicate (192 - key_bytes spec) 0
+
+abbrev pub outer_fields : FormatSpec → List ℕ → Fields
+outer_fields spec material = record {
+  hidden_size = 0;
+  volume_size = spec.size - 262144;
+  start = 131072;
+  encrypted = spec.size - 262144;
+  flags = 0;
+  sector = 512;
+  material = material;
+}
+
+-- the body of a header with this salt, enciphered
+abbrev pub body_under : FormatSpec → List ℕ → Fields → List ℕ
+body_under spec salt fields =
+    enciphered (record { algorithm = spec.algorithm; material = derived spec.prf spec.password spec.pim salt }) 0
+    (body_of fields)
+
+-- the image with the body of a slot's header written behind its salt
+abbrev pub with_body : FormatSpec → Fields → Slot → List ℕ → List ℕ
+with_body spec fields slot image =
+    written (place_of slot (length image) + 64) (body_under spec (salt_of (header_at slot image)) fields) image
+
+unfoldable pub formatted : ChaCha → FormatSpec → List ℕ
+formatted g spec =
+    let fields = outer_fields spec (material_of g spec) in
+    with_body spec fields BackupStandard (with_body spec fields Standard (stream_bytes g 0 spec.size))
+
+abbrev pub Carries : List ℕ → Slot → FormatSpec → Fields → Type 0
+Carries image slot spec fields =
+    plain_by spec.prf spec.algorithm spec.password spec.pim (header_at slot image) ≡ body_of fields

@@ -1,0 +1,50 @@
+//! What is drawn from the random stream: bytes in order, salts out of order, and the master keys.
+ghost use Rattle.std.specs.Prelude.{◌≡◌, ◌-◌, ◌*◌, ◌%◌, ◌++◌, length, replicate};
+ghost use Rattle.cascade_set.specs.Algorithms.{ciphers_of};
+ghost use Rattle.volume_format.specs.Stream.{advanced, stream_bytes};
+
+use cascade_set::Algorithm;
+use rand_chacha::ChaCha20Rng;
+use rand_core::utils::fill_bytes_via_u32;
+use vc_header::{MATERIAL, SALT};
+
+/// The bytes that the keys of one cipher take: a main key and a tweak key.
+const CIPHER_KEYS: usize = 64;
+
+/// The bytes of a word of the stream.
+const WORD: u64 = 4;
+
+/// Fills the bytes with the next bytes of the stream.
+pub(crate) fn draw(rng: &mut ChaCha20Rng, bytes: &mut [u8])
+    requires { length bytes.old % 4 ≡ 0 }
+    ensures bytes { bytes.new ≡ stream_bytes rng.old 0 (length bytes.old) }
+    ensures drawn { rng.new ≡ advanced rng.old (length bytes.old) }
+{
+    let _place = rng.get_word_pos();
+    fill_bytes_via_u32(rng, bytes);
+}
+
+/// The salt that stands at byte `at` of the stream. The generator keeps its place.
+pub(crate) fn salt_at(rng: &mut ChaCha20Rng, at: u64) -> [u8; 64]
+    ensures salt { result ≡ stream_bytes rng.old at 64 }
+    ensures rng { rng.new ≡ rng.old }
+{
+    let mut salt = [0u8; SALT];
+    let place = rng.get_word_pos();
+    rng.set_word_pos(place + u128::from(at / WORD));
+    draw(rng, &mut salt);
+    rng.set_word_pos(place);
+    salt
+}
+
+/// The next bytes of the stream as master keys, then zeros.
+pub(crate) fn key_material(rng: &mut ChaCha20Rng, algorithm: Algorithm) -> [u8; 192]
+    ensures material { let n = 64 * length (ciphers_of algorithm) in
+        result ≡ stream_bytes rng.old 0 n ++ replicate (192 - n) 0 }
+    ensures drawn { rng.new ≡ advanced rng.old (64 * length (ciphers_of algorithm)) }
+{
+    let count = CIPHER_KEYS * usize::from(algorithm.ciphers());
+    let mut material = [0u8; MATERIAL];
+    draw(rng, &mut material[..count]);
+    material
+}
