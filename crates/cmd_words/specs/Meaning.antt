@@ -1,0 +1,30 @@
+-- The command line that a command stands for.
+use Rattle.std.specs.Prelude.{Option, Some, None, string_bytes}
+use Rattle.cmd_words.specs.Line.{Line, Text, format, hide, info, cat, passwd, restore, serve, drill}
+use Rattle.cmd_words.specs.declared.command.Command.{Command}
+use Rattle.cmd_words.specs.declared.command.Command.TheVariants.{Format, Hide, Info, Cat, Passwd, Restore, Serve, Drill}
+
+abbrev pub meaning : Command → Line
+meaning (Format path size password random pim prf algorithm) =
+    format (string_bytes path) size password random pim prf algorithm
+meaning (Hide path size password random pim prf algorithm) =
+    hide (string_bytes path) size password random pim prf algorithm
+meaning (Info path password pim kind) = info (string_bytes path) password pim kind
+meaning (Cat path first count password pim kind) = cat (string_bytes path) first count password pim kind
+meaning (Passwd path password new_password random pim new_pim new_prf kind) =
+    passwd (string_bytes path) password new_password random pim new_pim new_prf kind
+meaning (Restore path password random pim kind) = restore (string_bytes path) password random pim kind
+meaning (Serve path password pim kind protect helpers workers) =
+    serve (string_bytes path) password pim kind protect helpers workers
+meaning (Drill n) = drill n
+
+-- the path that a command names
+abbrev pub path_of : Line → Option Text
+path_of (format path size password random pim prf algorithm) = Some path
+path_of (hide path size password random pim prf algorithm) = Some path
+path_of (info path password pim kind) = Some path
+path_of (cat path first count password pim kind) = Some path
+path_of (passwd path password new_password random pim new_pim new_prf kind) = Some path
+path_of (restore path password random pim kind) = Some path
+path_of (serve path password pim kind protect helpers workers) = Some path
+path_of (drill n) = None

@@ -1,0 +1,28 @@
+-- The limits that the values of a line keep: a PIM is at most 2,147,468, helpers are at most 8,
+-- workers are 1 to 8, and what `drill` is given is below 2^32.
+use Rattle.std.specs.Prelude.{ℕ, ◌≤◌, ◌<◌, ◌^◌, Option, IfSome}
+use Rattle.cmd_words.specs.Line.{Line, Text, format, hide, info, cat, passwd, restore, serve, drill}
+
+abbrev pub IsPim : ℕ → Type 0
+IsPim pim = pim ≤ 2147468
+
+pub record IsPasswdInRange (pim new_pim : ℕ) : Type 0 where
+  pub pim_in : IsPim pim
+  pub new_pim_in : IsPim new_pim
+
+pub record IsServeInRange (pim : ℕ) (protect : Option (Text × ℕ)) (helpers workers : ℕ) : Type 0 where
+  pub pim_in : IsPim pim
+  pub protect_in : IfSome protect (λ p. IsPim p.1)
+  pub helpers_most : helpers ≤ 8
+  pub workers_least : 1 ≤ workers
+  pub workers_most : workers ≤ 8
+
+abbrev pub IsInRange : Line → Type 0
+IsInRange (format path size password random pim prf algorithm) = IsPim pim
+IsInRange (hide path size password random pim prf algorithm) = IsPim pim
+IsInRange (info path password pim kind) = IsPim pim
+IsInRange (cat path first count password pim kind) = IsPim pim
+IsInRange (passwd path password new_password random pim new_pim new_prf kind) = IsPasswdInRange pim new_pim
+IsInRange (restore path password random pim kind) = IsPim pim
+IsInRange (serve path password pim kind protect helpers workers) = IsServeInRange pim protect helpers workers
+IsInRange (drill n) = n < 2 ^ 32

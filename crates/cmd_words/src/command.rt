@@ -1,0 +1,94 @@
+//! The commands, with their values.
+ghost use Rattle.std.specs.Prelude.{◌≡◌, option_map};
+ghost use Rattle.cmd_words.specs.Meaning.{meaning, path_of};
+
+use cascade_set::Algorithm;
+use header_try::Kind;
+use kdf_hmac::{Password, Prf};
+
+/// What the program is asked to do. Sizes are in bytes, `first` and `count` in sectors, and a PIM
+/// of 0 is none.
+#[derive(Drop)]
+pub enum Command {
+    Format {
+        path: String,
+        size: u64,
+        password: Password,
+        random: [u8; 32],
+        pim: u32,
+        prf: Prf,
+        algorithm: Algorithm,
+    },
+    Hide {
+        path: String,
+        size: u64,
+        password: Password,
+        random: [u8; 32],
+        pim: u32,
+        prf: Prf,
+        algorithm: Algorithm,
+    },
+    Info {
+        path: String,
+        password: Password,
+        pim: u32,
+        kind: Kind,
+    },
+    Cat {
+        path: String,
+        first: u64,
+        count: u64,
+        password: Password,
+        pim: u32,
+        kind: Kind,
+    },
+    Passwd {
+        path: String,
+        password: Password,
+        new_password: Password,
+        random: [u8; 32],
+        pim: u32,
+        new_pim: u32,
+        /// None stands for the PRF of the header that is opened.
+        new_prf: Option<Prf>,
+        kind: Kind,
+    },
+    Restore {
+        path: String,
+        password: Password,
+        random: [u8; 32],
+        pim: u32,
+        kind: Kind,
+    },
+    Serve {
+        path: String,
+        password: Password,
+        pim: u32,
+        kind: Kind,
+        /// The password that opens the hidden volume, with its PIM.
+        protect: Option<(Password, u32)>,
+        helpers: u32,
+        workers: u32,
+    },
+    Drill {
+        n: u64,
+    },
+}
+
+impl Command {
+    /// The container that the command names. None for `drill`, which makes its own.
+    pub fn path(&self) -> Option<&str>
+        ensures { option_map (λ s. s.now) result ≡ path_of (meaning self.now) }
+    {
+        match self {
+            Command::Format { path, .. }
+            | Command::Hide { path, .. }
+            | Command::Info { path, .. }
+            | Command::Cat { path, .. }
+            | Command::Passwd { path, .. }
+            | Command::Restore { path, .. }
+            | Command::Serve { path, .. } => Some(path.as_str()),
+            Command::Drill { .. } => None,
+        }
+    }
+}

@@ -1,0 +1,10 @@
+//! Why no command was read.
+
+/// Why no command was read.
+#[derive(Clone, Copy, Debug, PartialEq, Eq)]
+pub enum WordsError {
+    /// The words make no command line.
+    Usage,
+    /// Memory ran out.
+    NoMemory,
+}
