@@ -1,14 +1,13 @@
 -- The volume that was opened is the first valid candidate's, so its sectors are those that were asked for.
-use Rattle.std.proofs.Common.{◌≡◌, ℕ, ◌+◌, ◌/◌, ◌≤◌, ◌<◌, List, Option, Some, None, sym, ap, ◌∙◌, subst, arith}
+use Rattle.std.proofs.Common.{◌≡◌, ℕ, ◌+◌, ◌/◌, ◌≤◌, ◌<◌, ◌⊎◌, inl, inr, List, Option, Some, None, sym, ap, ◌∙◌, subst, arith}
 use Rattle.std.specs.Prelude.{IfSome}
 use Rattle.vc_header.specs.declared.fields.Fields.{Fields}
 use Rattle.vc_outside.specs.Told.{Grows, GrowsByFront}
 use Rattle.cascade_set.specs.Volume.{plain_units}
-use Rattle.header_try.specs.declared.kind.Kind.TheVariants.{StandardOnly}
 use Rattle.header_try.specs.declared.kind.Opened.{Opened}
-use Rattle.header_try.specs.Candidates.{Candidate, candidate_of, fields_in, IsFirst}
-use Rattle.vc_app.specs.declared.words.Cat.{Cat}
-use Rattle.vc_app.specs.Cat.{asked, asked_of, asked_under, opened, sectors_of, IsInside, IsBeyond, IsWritten}
+use Rattle.header_try.specs.Candidates.{candidate_of, IsFirst}
+use Rattle.vc_app.specs.declared.cat.Cat.{Cat}
+use Rattle.vc_app.specs.Cat.{asked, asked_of, asked_under, sectors_of, IsInside, IsBeyond}
 use Rattle.vc_app.proofs.Units.{units_same}
 
 -- units that one cipher gives are those that an equal one gives
@@ -25,18 +24,18 @@ told_same_front None a b dec dec' u n same front = tt
 told_same_front (Some x) a b dec dec' u n same front =
     subst (λ (l : List ℕ). GrowsByFront a b l) (units_same dec dec' x u n same) front
 
-asked_first : (command : Cat) (o : Opened) (x : List ℕ) → IsFirst o StandardOnly x command.password command.pim
+asked_first : (command : Cat) (o : Opened) (x : List ℕ) → IsFirst o command.kind x command.password command.pim
     → asked_under command o.algorithm o.fields x ≡ asked command x
 asked_first command o x is =
     ap (λ (f : Fields). asked_under command o.algorithm f x) is.fields ∙ sym (ap (asked_of command x) is.candidate)
 
 -- the number of sectors of the opened volume
-sectors_first : (command : Cat) (o : Opened) (x : List ℕ) → IsFirst o StandardOnly x command.password command.pim
+sectors_first : (command : Cat) (o : Opened) (x : List ℕ) → IsFirst o command.kind x command.password command.pim
     → o.fields.volume_size / 512 ≡ sectors_of command x (candidate_of o)
 sectors_first command o x is = ap (λ (f : Fields). f.volume_size / 512) is.fields
 
 pub front_of_asked : (image image' : Option (List ℕ)) (a b : Option (List ℕ)) (command : Cat) (o : Opened) → image' ≡ image
-    → IfSome image (λ x. IsFirst o StandardOnly x command.password command.pim)
+    → IfSome image (λ x. IsFirst o command.kind x command.password command.pim)
     → IfSome image' (λ x. GrowsByFront a b (asked_under command o.algorithm o.fields x))
     → IfSome image (λ x. GrowsByFront a b (asked command x))
 front_of_asked None image' a b command o same is front = tt
@@ -45,26 +44,18 @@ front_of_asked (Some x) image' a b command o same is front =
     subst (λ (i : Option (List ℕ)). IfSome i (λ x. GrowsByFront a b (asked_under command o.algorithm o.fields x))) same front in
     subst (λ (l : List ℕ). GrowsByFront a b l) (asked_first command o x is) here
 
-pub written_asked : (image image' : Option (List ℕ)) (a b : Option (List ℕ)) (command : Cat) (o : Opened) → image' ≡ image
-    → IfSome image (λ x. IsFirst o StandardOnly x command.password command.pim)
-    → command.first + command.count ≤ o.fields.volume_size / 512
+pub all_of_asked : (image image' : Option (List ℕ)) (a b : Option (List ℕ)) (command : Cat) (o : Opened) → image' ≡ image
+    → IfSome image (λ x. IsFirst o command.kind x command.password command.pim)
     → IfSome image' (λ x. Grows a b (asked_under command o.algorithm o.fields x))
-    → IfSome image (λ x. IsWritten command x a b)
-written_asked None image' a b command o same is within all = tt
-written_asked (Some x) image' a b command o same is within all =
+    → IfSome image (λ x. Grows a b (asked command x))
+all_of_asked None image' a b command o same is all = tt
+all_of_asked (Some x) image' a b command o same is all =
     let here : Grows a b (asked_under command o.algorithm o.fields x) =
     subst (λ (i : Option (List ℕ)). IfSome i (λ x. Grows a b (asked_under command o.algorithm o.fields x))) same all in
-    record {
-      inside = record {
-        candidate = candidate_of o;
-        is_first = is.candidate;
-        within = subst (λ (n : ℕ). command.first + command.count ≤ n) (sectors_first command o x is) within;
-      };
-      grows = subst (λ (l : List ℕ). Grows a b l) (asked_first command o x is) here;
-    }
+    subst (λ (l : List ℕ). Grows a b l) (asked_first command o x is) here
 
 pub beyond_asked : (image : Option (List ℕ)) (command : Cat) (o : Opened)
-    → IfSome image (λ x. IsFirst o StandardOnly x command.password command.pim)
+    → IfSome image (λ x. IsFirst o command.kind x command.password command.pim)
     → o.fields.volume_size / 512 + 1 ≤ command.first + command.count
     → IfSome image (IsBeyond command)
 beyond_asked None command o is beyond = tt
@@ -76,7 +67,7 @@ beyond_asked (Some x) command o is beyond = record {
 
 -- where the volume is opened and the range is inside
 pub inside_asked : (image : Option (List ℕ)) (command : Cat) (o : Opened)
-    → IfSome image (λ x. IsFirst o StandardOnly x command.password command.pim)
+    → IfSome image (λ x. IsFirst o command.kind x command.password command.pim)
     → command.first + command.count ≤ o.fields.volume_size / 512
     → IfSome image (IsInside command)
 inside_asked None command o is within = tt
@@ -86,28 +77,12 @@ inside_asked (Some x) command o is within = record {
   within = subst (λ (n : ℕ). command.first + command.count ≤ n) (sectors_first command o x is) within;
 }
 
--- the first valid candidate is one
-same_candidate : (command : Cat) (o : Opened) (x : List ℕ) (c : Candidate)
-    → opened command x ≡ Some (candidate_of o) → opened command x ≡ Some c → candidate_of o ≡ c
-same_candidate command o x c is is' = let e : Some (candidate_of o) ≡ Some c = sym is ∙ is' in cc
+-- either the range is inside, or something else
+pub inside_or : (image : Option (List ℕ)) (command : Cat) (P : Type 0) → IfSome image (IsInside command)
+    → IfSome image (λ x. IsInside command x ⊎ P)
+inside_or None command P h = tt
+inside_or (Some x) command P h = inl h
 
--- a range that is inside is not beyond
-not_beyond : (command : Cat) (o : Opened) (x : List ℕ) → IsFirst o StandardOnly x command.password command.pim
-    → command.first + command.count ≤ o.fields.volume_size / 512 → IsBeyond command x → ⊥
-not_beyond command o x is within h =
-    let same : o.fields.volume_size / 512 ≡ sectors_of command x h.candidate =
-    sectors_first command o x is ∙ ap (sectors_of command x) (same_candidate command o x h.candidate is.candidate h.is_first) in
-    omega (arith, within, h.beyond, same)
-
--- where the range is beyond nothing is written: an opened volume whose range is inside isn't that case
-pub beyond_inside : (image : Option (List ℕ)) (command : Cat) (o : Opened) (P : Type 0)
-    → IfSome image (λ x. IsFirst o StandardOnly x command.password command.pim)
-    → command.first + command.count ≤ o.fields.volume_size / 512
-    → IfSome image (λ x. IsBeyond command x → P)
-beyond_inside None command o P is within = tt
-beyond_inside (Some x) command o P is within = λ h. absurd (not_beyond command o x is within h)
-
--- and where nothing was written anyway
-pub beyond_anyway : (image : Option (List ℕ)) (command : Cat) (P : Type 0) → P → IfSome image (λ x. IsBeyond command x → P)
-beyond_anyway None command P h = tt
-beyond_anyway (Some x) command P h = λ _. h
+pub or_anyway : (image : Option (List ℕ)) (command : Cat) (P : Type 0) → P → IfSome image (λ x. IsInside command x ⊎ P)
+or_anyway None command P h = tt
+or_anyway (Some x) command P h = inr h

@@ -1,7 +1,5 @@
 -- output that grows part by part
 pub mod Growth
--- numbers in digits
-pub mod Numbers
 -- data units of the plain volume
 pub mod Units
 -- the plain units that were written, part by part
@@ -10,3 +8,7 @@ pub mod Parts
 pub mod Asked
 -- what the statuses of one step say of the whole
 pub mod Statuses
+-- what the words ask
+pub mod Tasks
+-- the opened header is the asked one
+pub mod Shown

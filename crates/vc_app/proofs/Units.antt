@@ -3,7 +3,7 @@
 -- What is read from byte 512u on is the image's pieces from u on: piece j of it is piece u + j of the image. So what
 -- deciphering makes of it, piece by piece, is the plain units from u on. And the units from u on are the first i of
 -- them and then those from u + i on.
-use Rattle.std.proofs.Common.{◌≡◌, ℕ, ◌+◌, ◌-◌, ◌*◌, ◌/◌, ◌%◌, ◌<◌, ◌≤◌, List, ◌++◌, length, take, drop, Option, Some, None, refl, sym, ap, ◌∙◌, subst, arith, add_assoc}
+use Rattle.std.proofs.Common.{◌≡◌, ℕ, ◌+◌, ◌-◌, ◌*◌, ◌/◌, ◌≤◌, List, ◌++◌, length, take, drop, Option, Some, None, sym, ap, ◌∙◌, arith, add_assoc}
 use Rattle.std.specs.Prelude.{IfSome, slice_range}
 use Rattle.std.proofs.lemmas.List.{drop-take, take-take, drop-drop}
 use Rattle.vc_base.specs.Bytes.{joined, piece, in_pieces}

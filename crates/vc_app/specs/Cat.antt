@@ -4,10 +4,8 @@ use Rattle.cascade_set.specs.declared.algorithm.Algorithm.{Algorithm}
 use Rattle.cascade_set.specs.declared.algorithm.Keys.{Keys}
 use Rattle.cascade_set.specs.Volume.{plain_sectors}
 use Rattle.vc_header.specs.declared.fields.Fields.{Fields}
-use Rattle.vc_outside.specs.Told.{Grows}
-use Rattle.header_try.specs.declared.kind.Kind.TheVariants.{StandardOnly}
 use Rattle.header_try.specs.Candidates.{Candidate, fields_in, first}
-use Rattle.vc_app.specs.declared.words.Cat.{Cat}
+use Rattle.vc_app.specs.declared.cat.Cat.{Cat}
 
 -- the keys of a volume
 abbrev pub keys_of : Algorithm → Fields → Keys
@@ -26,7 +24,7 @@ asked_of command image (Some c) =
 
 -- the candidate that is opened
 abbrev pub opened : Cat → List ℕ → Option Candidate
-opened command image = first StandardOnly image command.password command.pim
+opened command image = first command.kind image command.password command.pim
 
 abbrev pub asked : Cat → List ℕ → List ℕ
 asked command image = asked_of command image (opened command image)
@@ -46,8 +44,3 @@ pub record IsBeyond (command : Cat) (image : List ℕ) : Type 0 where
   pub candidate : Candidate
   pub is_first : opened command image ≡ Some candidate
   pub beyond : sectors_of command image candidate < command.first + command.count
-
--- the asked sectors were written, and nothing else
-pub record IsWritten (command : Cat) (image : List ℕ) (old new : Option (List ℕ)) : Type 0 where
-  pub inside : IsInside command image
-  pub grows : Grows old new (asked command image)

@@ -1,6 +1,8 @@
--- the command line
-pub mod Line
 -- the exit statuses
 pub mod Status
 -- what `cat` is to write
 pub mod Cat
+-- what `info` is to write
+pub mod Info
+-- what each command does, and when it is refused
+pub mod Commands

@@ -5,19 +5,18 @@ ghost use Rattle.vc_layout.specs.Layout.{IsContainerLength};
 ghost use Rattle.vc_outside.specs.Told.{Grows, GrowsByFront};
 ghost use Rattle.cascade_set.specs.Volume.{plain_sectors, plain_units};
 ghost use Rattle.vc_header.specs.Header.{Meets};
-ghost use Rattle.header_try.specs.Candidates.{candidate_of, first};
-ghost use Rattle.vc_app.specs.Cat.{asked, asked_under, keys_of, IsBeyond, IsInside, IsWritten};
-ghost use Rattle.vc_app.specs.Status.{IsOfCat, IsQuiet, IsSettled, IsWriting, status_of};
-ghost use Rattle.header_try.specs.declared.kind.Kind.TheVariants.{StandardOnly};
+ghost use Rattle.header_try.specs.Candidates.{candidate_of};
+ghost use Rattle.vc_app.specs.Cat.{asked, asked_under, keys_of, opened, IsBeyond, IsInside};
+ghost use Rattle.vc_app.specs.Status.{IsOfCat, IsRefusal, IsWorking, IsWriting, status_of};
 
-use crate::output::write_all;
-use crate::status::Status;
-use crate::words::Cat;
+use crate::output::{settled, written};
+use crate::status::{Status, status_of};
 use cascade_set::{Keyed, Keys};
 use cipher_base::UnitCipher;
-use header_try::{Kind, OpenError, Opened, open_plain};
+use header_try::{Kind, Opened, open_plain};
+use kdf_hmac::Password;
 use vc_layout::SECTOR;
-use vc_outside::{OutError, Sink, Store};
+use vc_outside::{Sink, Store};
 
 /// The sectors that the buffer holds.
 const BUFFER_SECTORS: u64 = 128;
@@ -25,25 +24,36 @@ const BUFFER_SECTORS: u64 = 128;
 /// The buffer's length in bytes.
 const BUFFER: usize = 65_536;
 
+/// What `cat` is asked: `count` sectors from `first` on, of the volume that password, PIM and kind open.
+#[derive(Drop)]
+pub struct Cat {
+    pub first: u64,
+    pub count: u64,
+    pub password: Password,
+    pub pim: u32,
+    pub kind: Kind,
+}
+
 /// Opens the volume and writes the asked sectors.
-pub fn cat<D: Store, O: Sink>(disk: &mut D, out: &mut O, command: &Cat) -> Status
+pub fn run_cat<D: Store, O: Sink>(disk: &mut D, out: &mut O, command: &Cat) -> Status
     requires { command.now.pim ≤ 2147468 }
 
-    // What is written, where the store tells its bytes.
+    // What is written, where the store tells its bytes; nothing is but where the volume has the asked sectors.
     ensures done { result ≡ Status.Done → IfSome (D.image disk.old) (λ b.
-        IsWritten command.now b (O.contents out.old) (O.contents out.new)) }
+        Grows (O.contents out.old) (O.contents out.new) (asked command.now b)) }
     ensures front { IfSome (D.image disk.old) (λ b.
         GrowsByFront (O.contents out.old) (O.contents out.new) (asked command.now b)) }
-    ensures quiet { IsQuiet result → O.contents out.new ≡ O.contents out.old }
-    ensures beyond { IfSome (D.image disk.old) (λ b.
-        IsBeyond command.now b → O.contents out.new ≡ O.contents out.old) }
+    ensures silent { IfSome (D.image disk.old) (λ b.
+        IsInside command.now b ⊎ (O.contents out.new ≡ O.contents out.old)) }
+    ensures quiet { IsRefusal result → O.contents out.new ≡ O.contents out.old }
 
-    // Why it is refused.
+    // Why it is refused, and what holds where it is not.
     ensures possible { IsOfCat result }
+    ensures inside { IsWorking result → IfSome (D.image disk.old) (IsInside command.now) }
+    ensures in_range { IsWorking result → IsContainerLength (D.size disk.old) }
     ensures no_header { result ≡ Status.NoHeader → IfSome (D.image disk.old) (λ b.
-        first StandardOnly b command.now.password command.now.pim ≡ None) }
+        opened command.now b ≡ None) }
     ensures bad_size { result ≡ Status.BadSize → IfSome (D.image disk.old) (IsBeyond command.now) }
-    ensures no_memory { result ≡ Status.NoMemory → IfSome (D.image disk.old) (IsInside command.now) }
     ensures length { (n : ℕ) → result ≡ Status.Length n → (n ≡ D.size disk.old) × ¬ IsContainerLength n }
     ensures refused { ¬ IsContainerLength (D.size disk.old) → result ≡ Status.Length (D.size disk.old) }
     ensures disk_cause { HasCause (D.faults disk.old) (D.faults disk.new) (result ≡ Status.DiskFault) }
@@ -57,40 +67,13 @@ pub fn cat<D: Store, O: Sink>(disk: &mut D, out: &mut O, command: &Cat) -> Statu
 {
     let disk_faults = disk.faults();
     let out_faults = out.faults();
-    let opened = match open_plain(disk, &command.password, command.pim, Kind::StandardOnly) {
+    let opened = match open_plain(disk, &command.password, command.pim, command.kind) {
         Ok(opened) => opened,
         Err(error) => return status_of(error),
     };
     match write_asked(disk, out, command, &opened) {
         Status::Done => settled(disk, out, disk_faults, out_faults),
         status => status,
-    }
-}
-
-// What a call that did all answers: a fault that it got over is a fault all the same.
-fn settled<D: Store, O: Sink>(disk: &D, out: &O, disk_faults: u64, out_faults: u64) -> Status
-    ensures possible { IsSettled result }
-    ensures done { result ≡ Status.Done → (D.faults disk.now ≡ disk_faults) × (O.faults out.now ≡ out_faults) }
-    ensures disk { result ≡ Status.DiskFault → D.faults disk.now ≢ disk_faults }
-    ensures out { result ≡ Status.OutFault → O.faults out.now ≢ out_faults }
-{
-    if disk.faults() != disk_faults {
-        return Status::DiskFault;
-    }
-    if out.faults() != out_faults {
-        return Status::OutFault;
-    }
-    Status::Done
-}
-
-fn status_of(error: OpenError) -> Status
-    ensures { result ≡ status_of error }
-{
-    match error {
-        OpenError::Length(len) => Status::Length(len),
-        OpenError::NoHeader => Status::NoHeader,
-        OpenError::ReadFault => Status::DiskFault,
-        OpenError::NoMemory => Status::NoMemory,
     }
 }
 
@@ -109,7 +92,7 @@ fn write_asked<D: Store, O: Sink>(
         GrowsByFront (O.contents out.old) (O.contents out.new) (asked_under command.now opened.now.algorithm opened.now.fields b)) }
     ensures within { result ≢ Status.BadSize → command.now.first + command.now.count ≤ opened.now.fields.volume_size / 512 }
     ensures bad_size { result ≡ Status.BadSize → opened.now.fields.volume_size / 512 + 1 ≤ command.now.first + command.now.count }
-    ensures quiet { IsQuiet result → O.contents out.new ≡ O.contents out.old }
+    ensures quiet { IsRefusal result → O.contents out.new ≡ O.contents out.old }
     ensures possible { IsWriting result ⊎ (result ≡ Status.BadSize) }
     ensures disk_cause { HasCause (D.faults disk.old) (D.faults disk.new) (result ≡ Status.DiskFault) }
     ensures out_cause { HasCause (O.faults out.old) (O.faults out.new) (result ≡ Status.OutFault) }
@@ -192,9 +175,5 @@ fn write_part<D: Store, O: Sink, C: UnitCipher>(
         return Status::DiskFault;
     };
     cipher.decipher_units(unit, bytes);
-    match write_all(out, bytes) {
-        Ok(()) => Status::Done,
-        Err(OutError::Failed) => Status::OutFault,
-        Err(OutError::NoMemory) => Status::NoMemory,
-    }
+    written(out, bytes)
 }

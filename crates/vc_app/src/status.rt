@@ -1,6 +1,8 @@
 //! How a call ended.
 ghost use Rattle.std.specs.Prelude.{◌≡◌};
-ghost use Rattle.vc_app.specs.Status.{code_of};
+ghost use Rattle.vc_app.specs.Status.{code_of, status_of};
+
+use header_try::OpenError;
 
 /// How a call ended. Each cause is a variant of its own.
 #[derive(Clone, Copy, Debug, PartialEq, Eq)]
@@ -50,5 +52,17 @@ impl Status {
             Status::ClientMagic(_, _) => 11,
             Status::ClientFault(_) => 12,
         }
+    }
+}
+
+/// The status of a call whose opening failed so.
+pub fn status_of(error: OpenError) -> Status
+    ensures { result ≡ status_of error }
+{
+    match error {
+        OpenError::Length(len) => Status::Length(len),
+        OpenError::NoHeader => Status::NoHeader,
+        OpenError::ReadFault => Status::DiskFault,
+        OpenError::NoMemory => Status::NoMemory,
     }
 }

@@ -1,14 +1,15 @@
 //! The program `vcserve`: real files, real output, and nothing else.
 //!
-//! The command line goes to the top call of `vc_app` with the container that its second word names and
-//! with the standard output. The status that comes back is the exit status, and where it is not 0, one
-//! line on the standard error says why.
+//! The words go to the top call of `vc_app` with the container that they name and with the standard output.
+//! The status that comes back is the exit status, and where it is not 0, one line on the standard error
+//! says why.
 //!
 //! A file that is opened takes the lowest descriptor that is free. Where the standard input, output or
 //! error is closed, that is its number, and what is printed would be written into a container. So
 //! `main` opens /dev/null three times first, and keeps it open until the end.
 #![tactic(auto)]
 
+use cmd_words::{Command, WordsError, read_words};
 use std::fs::File;
 use std::process::ExitCode;
 use std::rt::{Env, Files};
@@ -16,7 +17,7 @@ use std::thread::Threads;
 use std::{env, io};
 use vc_app::{Status, run_plain};
 use vc_host::{FileStore, StreamSink};
-use vc_outside::{Failed, SureStore};
+use vc_outside::{Failed, Store, SureStore};
 
 fn main(rt: HostRuntime) -> ExitCode {
     let kept = keep_standard(&rt);
@@ -51,24 +52,61 @@ fn words<R: Env + AllocGlobal>(rt: &R) -> Result<Vec<String>, Status> {
         .map_err(|_| Status::NoMemory)
 }
 
-// Calls the top call with the container that the second word names, or without one with an empty store.
+// The words up to the first one that is `--` make the command. Those after it are pairs of files for the
+// clients of `serve`.
 fn run<R: Files<File = File> + Print + AllocGlobal + Threads + Sync>(
     rt: &R,
-    words: &[String],
+    all: &[String],
 ) -> Status {
-    let out = StreamSink::new(io::writer(rt));
-    let Some(path) = words.get(1) else {
-        let none = SureStore::new(Vec::new(rt.alloc()));
-        let (status, _, _) = run_plain(rt, words, none, out);
-        return status;
+    let end = all.iter().position(|word| word.as_str() == "--");
+    let words = &all[..end.unwrap_or(all.len())];
+    let files = all.len().saturating_sub(words.len() + 1);
+    if files % 2 != 0 || (files > 0 && !is_serve(words)) {
+        return Status::Usage;
+    }
+    let container = match read_words(rt.alloc(), words) {
+        Ok(command) => container_of(rt, &command),
+        Err(WordsError::Usage) => Ok(None),
+        Err(WordsError::NoMemory) => return Status::NoMemory,
     };
-    match FileStore::open(rt, path.as_str()) {
-        Ok(disk) => {
-            let (status, _, _) = run_plain(rt, words, disk, out);
-            status
-        }
+    match container {
+        Ok(Some(disk)) => call(rt, words, disk),
+        Ok(None) => call(rt, words, SureStore::new(Vec::new(rt.alloc()))),
         Err(Failed) => Status::DiskFault,
     }
+}
+
+fn is_serve(words: &[String]) -> bool {
+    match words.first() {
+        Some(word) => word.as_str() == "serve",
+        None => false,
+    }
+}
+
+// The container that the command names. `format` makes it where it is missing.
+fn container_of<R: Files<File = File>>(
+    rt: &R,
+    command: &Command,
+) -> Result<Option<FileStore>, Failed> {
+    let Some(path) = command.path() else {
+        return Ok(None);
+    };
+    let disk = match command {
+        Command::Format { .. } => FileStore::create(rt, path)?,
+        _ => FileStore::open(rt, path)?,
+    };
+    Ok(Some(disk))
+}
+
+// The top call over the standard output.
+fn call<R: Print + AllocGlobal + Threads + Sync, D: Store + Drop>(
+    rt: &R,
+    words: &[String],
+    disk: D,
+) -> Status {
+    let out = StreamSink::new(io::writer(rt));
+    let (status, _, _) = run_plain(rt, rt.alloc(), words, disk, out);
+    status
 }
 
 fn tell<R: Eprint>(rt: &R, status: Status) -> io::Result<()> {

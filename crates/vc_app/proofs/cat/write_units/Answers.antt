@@ -1,4 +1,4 @@
-use Rattle.std.proofs.Common.{ℕ, ◌+◌, ◌-◌, ◌/◌, ◌*◌, ◌≡◌, ◌≤◌, List, arith, refl, length, take, length-take, min, ap, ◌∙◌}
+use Rattle.std.proofs.Common.{ℕ, ◌/◌, ◌*◌, ◌≡◌, ◌≤◌, List, arith, refl, length, take, length-take, ◌∙◌}
 use Rattle.cascade_set.specs.Volume.{plain_units}
 use Rattle.vc_app.proofs.Parts.{written_none, written_more, stopped, written_all, front_told}
 use Rattle.vc_app.proofs.cat.write_units.Goals as goal

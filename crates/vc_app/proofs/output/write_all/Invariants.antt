@@ -1,5 +1,5 @@
 -- What was taken so far is the front of the bytes up to `at`.
-use Rattle.std.proofs.Common.{◌≤◌, ◌-◌, ◌≡◌, length, take}
+use Rattle.std.proofs.Common.{◌≤◌, ◌-◌, length, take}
 use Rattle.vc_outside.specs.Told.{Grows}
 use Rattle.vc_app.proofs.output.write_all.Given as goal
 

@@ -1,0 +1,270 @@
+//! `format`, and what `info` and `cat` then say of the container.
+ghost use Rattle.std.specs.Prelude.{◌≡◌};
+
+use super::misses::{Miss, MissingStore};
+use super::{CAT, FORMAT, INFO, SMALL_TEXT, run};
+use crate::{Status, run_plain};
+use std::test::Fail;
+use vc_outside::{MemStore, Store, SureSink, SureStore};
+
+// Whether these 16 bytes stand there, the highest first.
+fn has_block(bytes: &[u8], at: usize, block: u128) -> bool {
+    match bytes.get(at..) {
+        Some(rest) => rest.starts_with(&u128::to_be_bytes(block)),
+        None => false,
+    }
+}
+
+#[test]
+fn a_container_of_1_mib_is_made_and_opens(rt: HostRuntime) -> Result<(), Fail> {
+    let alloc = rt.alloc();
+    let disk = MemStore::new(
+        alloc,
+        Vec::new(alloc),
+        Vec::new(alloc),
+        None,
+        4_096,
+        16 << 20,
+    )?;
+    let line = "format|c1.vc|--size|1048576|--password|correct horse|--random|@|--pim|1";
+    let (status, disk, out) = run(&rt, line, disk)?;
+    assert_eq!(rt; status, Status::Done);
+    assert_eq!(rt; out.bytes(), b"ok\n".as_slice());
+    assert_eq!(rt; disk.len(), 1_048_576);
+    // by Python: ChaCha20 and AES-XTS of its package cryptography, hashlib and zlib
+    for (at, block) in [
+        (0, 0x39fd_2b7d_d9c5_196a_8dbd_0377_b8dc_4a49),
+        (64, 0x57b6_22bb_6aed_db22_ea1b_bf36_bc29_8583),
+        (131_072, 0xaa98_3c05_5047_bdab_e811_4866_3363_efa4),
+        (917_568, 0xaf48_7e98_e550_751d_ffd5_c932_37ba_506c),
+        (1_048_560, 0x5bcd_ca8d_8ca2_07ba_40f4_c78e_ed64_a0a8),
+    ] {
+        assert!(rt; has_block(disk.bytes(), at, block), "at {at}");
+    }
+    for pick in 0..3 {
+        let image = disk.after_crash(pick)?;
+        assert!(rt; image.as_slice() == disk.bytes(), "crash {pick}");
+    }
+    let text = "slot standard\nprf sha512\nalgorithm aes\nstart 131072\nsize 786432\nsector 512\n";
+    let rows = [
+        (INFO, Status::Done, text),
+        (
+            "info|--kind=any|--pim=1|c1.vc|--password=correct horse",
+            Status::Done,
+            text,
+        ),
+        (
+            "info|c1.vc|--kind|standard|--password|correct horse|--pim|1",
+            Status::Done,
+            text,
+        ),
+        (
+            "info|c1.vc|--password|wrong horse|--pim|1",
+            Status::NoHeader,
+            "",
+        ),
+        (
+            "info|c1.vc|--password|correct horse|--pim|2",
+            Status::NoHeader,
+            "",
+        ),
+        (
+            "cat|c1.vc|1536|0|--password|correct horse|--pim|1",
+            Status::Done,
+            "",
+        ),
+        (
+            "cat|c1.vc|1536|1|--password|correct horse|--pim|1",
+            Status::BadSize,
+            "",
+        ),
+    ];
+    let mut disk = disk;
+    for (line, wanted, printed) in rows {
+        let (status, after, out) = run(&rt, line, disk)?;
+        assert_eq!(rt; status, wanted, "{line}");
+        assert_eq!(rt; out.bytes(), printed.as_bytes(), "{line}");
+        disk = after;
+    }
+    Ok(())
+}
+
+#[test]
+fn a_longer_container_is_cut_to_the_smallest(rt: HostRuntime) -> Result<(), Fail> {
+    let longer = SureStore::new(vec![in rt.alloc(); 0xee_u8; 300_000]?);
+    let (status, disk, out) = run(&rt, FORMAT, longer)?;
+    assert_eq!(rt; status, Status::Done);
+    assert_eq!(rt; out.bytes(), b"ok\n".as_slice());
+    let whole = disk.bytes();
+    assert_eq!(rt; whole.len(), 262_656);
+    // by Python, as above
+    for (at, block) in [
+        (64, 0x9033_8ee7_264a_6135_e49f_9e3f_3864_65bb),
+        (131_072, 0xaa98_3c05_5047_bdab_e811_4866_3363_efa4),
+        (131_648, 0xdcbf_cf99_ddc1_af88_3214_029a_e1f0_4319),
+        (262_640, 0xd10c_af6f_3d46_6a24_5399_a0d4_7f0f_069c),
+    ] {
+        assert!(rt; has_block(whole, at, block), "at {at}");
+    }
+    let rows = [
+        (CAT, Status::Done, 512),
+        (
+            "cat|c1.vc|1|0|--password|correct horse|--pim|1",
+            Status::Done,
+            0,
+        ),
+        (
+            "cat|c1.vc|1|1|--password|correct horse|--pim|1",
+            Status::BadSize,
+            0,
+        ),
+    ];
+    for (line, wanted, length) in rows {
+        let disk = SureStore::new(Vec::from_slice(rt.alloc(), whole)?);
+        let (status, after, out) = run(&rt, line, disk)?;
+        assert_eq!(rt; status, wanted, "{line}");
+        assert_eq!(rt; out.bytes().len(), length, "{line}");
+        assert!(rt; after.bytes() == whole, "{line}");
+    }
+    Ok(())
+}
+
+// The first block of the volume, of which format enciphers nothing, under the keys of each algorithm: by
+// ChaCha20 of Python's package cryptography and the XTS mode of libgcrypt.
+#[test]
+fn each_algorithm_opens_with_each_function(rt: HostRuntime) -> Result<(), Fail> {
+    let alloc = rt.alloc();
+    let algorithms = [
+        ("aes", 0x7c26_8083_8db1_0993_178b_4a88_69e2_e865),
+        ("serpent", 0xfa16_d596_cbae_f015_6629_122a_a59a_01cc),
+        ("twofish", 0x62b5_36c8_1f37_1121_3c99_6642_da9a_6c0b),
+        ("aes-twofish", 0x91aa_f2ec_2648_cdb3_d25a_e6f7_7512_f241),
+        (
+            "aes-twofish-serpent",
+            0x0bff_c98d_7511_7ed7_e079_627e_3869_0285,
+        ),
+        ("serpent-aes", 0x48c4_bfab_dc6f_8cbe_e85f_24a9_f929_d713),
+        (
+            "serpent-twofish-aes",
+            0x53e4_6468_8570_e531_e03f_a73f_ecc1_0107,
+        ),
+        (
+            "twofish-serpent",
+            0x7290_8335_d8eb_14b1_c6e5_ffce_807f_38fc_u128,
+        ),
+    ];
+    for (algorithm, block) in algorithms {
+        for prf in ["sha512", "sha256"] {
+            let line = format!(in alloc; "{FORMAT}|--algorithm|{algorithm}|--prf|{prf}")?;
+            let (status, disk, _out) = run(&rt, line.as_str(), SureStore::new(Vec::new(alloc)))?;
+            assert_eq!(rt; status, Status::Done, "{algorithm} {prf}");
+            let text = format!(in alloc;
+                "slot standard\nprf {prf}\nalgorithm {algorithm}\nstart 131072\nsize 512\nsector 512\n"
+            )?;
+            let (status, disk, out) = run(&rt, INFO, disk)?;
+            assert_eq!(rt; status, Status::Done, "{algorithm} {prf}");
+            assert_eq!(rt; out.bytes(), text.as_bytes(), "{algorithm} {prf}");
+            let (status, _disk, out) = run(&rt, CAT, disk)?;
+            assert_eq!(rt; status, Status::Done, "{algorithm} {prf}");
+            assert_eq!(rt; out.bytes().len(), 512, "{algorithm} {prf}");
+            assert!(rt; has_block(out.bytes(), 0, block), "{algorithm} {prf}");
+        }
+    }
+    Ok(())
+}
+
+// The store counts its reads, and takes no write.
+#[test]
+fn what_is_refused_touches_nothing(rt: HostRuntime) -> Result<(), Fail> {
+    let alloc = rt.alloc();
+    let rows = [
+        (
+            "format|c1.vc|--size|0|--password|x|--random|@",
+            Status::BadSize,
+        ),
+        (
+            "format|c1.vc|--size|262655|--password|x|--random|@",
+            Status::BadSize,
+        ),
+        (
+            "format|c1.vc|--size|262657|--password|x|--random|@",
+            Status::BadSize,
+        ),
+        (
+            "format|c1.vc|--size|1099511628288|--password|x|--random|@",
+            Status::BadSize,
+        ),
+        (
+            "format|c1.vc|--size|18446744073709551615|--password|x|--random|@",
+            Status::BadSize,
+        ),
+        ("info|c1.vc|--password|x", Status::Length(262_655)),
+        ("cat|c1.vc|0|1|--password|x", Status::Length(262_655)),
+        (
+            "format|c1.vc|--size|262656|--password|x|--random|@|--pim|2147469",
+            Status::Usage,
+        ),
+        (
+            "format|c1.vc|--size|262656|--password||--random|@",
+            Status::Usage,
+        ),
+        ("format|c1.vc|--size|262656|--password|x", Status::Usage),
+        ("info|c1.vc|--password|x|--pim|2147469", Status::Usage),
+        ("info|c1.vc|--password|", Status::Usage),
+        ("info|c1.vc|--password|x|--kind|hidden", Status::Usage),
+        ("info|c1.vc|--password|x|--backup", Status::Usage),
+        (
+            "info|c1.vc|--password|x|--backup|--kind|standard",
+            Status::Usage,
+        ),
+        ("cat|c1.vc|0|1|--password|x|--pim|2147469", Status::Usage),
+        ("cat|c1.vc|0|1|--password|", Status::Usage),
+        ("cat|c1.vc|0|1|--password|x|--kind|hidden", Status::Usage),
+        ("cat|c1.vc|0|1|--password|x|--backup", Status::Usage),
+        ("cat", Status::Usage),
+        ("dog|c1.vc|0|1|--password|x", Status::Usage),
+        // commands that are not built yet
+        (
+            "hide|c1.vc|--size|512|--password|x|--random|@",
+            Status::Usage,
+        ),
+        (
+            "passwd|c1.vc|--password|x|--new|y|--random|@",
+            Status::Usage,
+        ),
+        ("restore|c1.vc|--password|x|--random|@", Status::Usage),
+        ("serve|c1.vc|--password|x", Status::Usage),
+        ("drill|7", Status::Usage),
+    ];
+    let short = vec![in alloc; 0xee_u8; 262_655]?;
+    for (line, wanted) in rows {
+        let disk = MissingStore::new(short.clone()?, 0, Miss::Fails);
+        let (status, disk, out) = run(&rt, line, disk)?;
+        assert_eq!(rt; status, wanted, "{line}");
+        assert_eq!(rt; disk.reads, 0, "{line}");
+        assert_eq!(rt; disk.faults, 0, "{line}");
+        assert_eq!(rt; out.bytes().len(), 0, "{line}");
+    }
+    // no words at all
+    let disk = MissingStore::new(short, 0, Miss::Fails);
+    let (status, disk, _out) = run_plain(&rt, alloc, &[], disk, SureSink::new(alloc));
+    assert_eq!(rt; status, Status::Usage);
+    assert_eq!(rt; disk.reads, 0);
+    Ok(())
+}
+
+// A container whose standard header is damaged, or which is none.
+#[test]
+fn zeros_have_no_header(rt: HostRuntime) -> Result<(), Fail> {
+    let disk = SureStore::new(vec![in rt.alloc(); 0u8; 262_656]?);
+    let (status, disk, out) = run(&rt, INFO, disk)?;
+    assert_eq!(rt; status, Status::NoHeader);
+    assert_eq!(rt; out.bytes().len(), 0);
+    // and the smallest container is made of it
+    let (status, disk, _out) = run(&rt, FORMAT, disk)?;
+    assert_eq!(rt; status, Status::Done);
+    let (status, _disk, out) = run(&rt, INFO, disk)?;
+    assert_eq!(rt; status, Status::Done);
+    assert_eq!(rt; out.bytes(), SMALL_TEXT.as_bytes());
+    Ok(())
+}

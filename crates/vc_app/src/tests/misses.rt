@@ -1,0 +1,197 @@
+//! A store and a sink that are missed now and then, and tell nothing of what they hold.
+ghost use Rattle.std.specs.Prelude.{◌≡◌, ◌≤◌, None, ⊤, false, length, true};
+ghost use Rattle.vc_base.specs.Faults.{Rose};
+
+use std::alloc::Global;
+use vc_outside::{Failed, OutError, Sink, Store};
+
+// How a store fails at one of its reads.
+#[derive(Clone, Copy, Debug)]
+pub(crate) enum Miss {
+    // The read fails, and the next ones do not.
+    Fails,
+    // The read is well, and a fault is counted all the same.
+    GetsOver,
+}
+
+// A store whose read with the number `at` is missed, and to which nothing can be written.
+#[derive(Drop)]
+pub(crate) struct MissingStore {
+    bytes: Vec<u8>,
+    at: u64,
+    miss: Miss,
+    pub(crate) reads: u64,
+    pub(crate) faults: u64,
+}
+
+impl MissingStore {
+    pub(crate) fn new(bytes: Vec<u8>, at: u64, miss: Miss) -> MissingStore {
+        MissingStore {
+            bytes,
+            at,
+            miss,
+            reads: 0,
+            faults: 0,
+        }
+    }
+
+    // Counts a read, and a fault where it is the missed one. Whether the read fails.
+    fn misses(&mut self) -> bool
+        ensures bytes { self.new.bytes ≡ self.old.bytes }
+        ensures later { self.old.faults ≤ self.new.faults }
+        ensures rose { result ≡ true → Rose self.old.faults self.new.faults }
+    {
+        let is_missed = self.reads == self.at;
+        self.reads = self.reads.saturating_add(1);
+        if is_missed {
+            self.faults = self.faults.saturating_add(1);
+        }
+        is_missed && matches!(self.miss, Miss::Fails)
+    }
+}
+
+impl Store for MissingStore {
+    ghost image = { λ _. None };
+
+    ghost size = { λ s. length s.bytes.items };
+
+    ghost faults = { λ s. s.faults };
+
+    ghost tells = { false };
+
+    ghost may_leave = { λ _ _. ⊤ };
+
+    ghost moment = { λ _. 0 };
+
+    ghost left_since = { λ _ _ _. ⊤ };
+
+    fn len(&self) -> u64 {
+        self.bytes.len() as u64
+    }
+
+    fn faults(&self) -> u64 {
+        self.faults
+    }
+
+    fn read_at(&mut self, at: u64, out: &mut [u8]) -> Result<(), Failed> {
+        if self.misses() {
+            out.fill(0xee);
+            return Err(Failed);
+        }
+        let from = at as usize;
+        out.copy_from_slice(&self.bytes[from..from + out.len()]);
+        Ok(())
+    }
+
+    fn write_at(&mut self, _at: u64, _bytes: &[u8]) -> Result<(), Failed> {
+        self.faults = self.faults.saturating_add(1);
+        Err(Failed)
+    }
+
+    fn set_len(&mut self, _len: u64) -> Result<(), OutError> {
+        self.faults = self.faults.saturating_add(1);
+        Err(OutError::Failed)
+    }
+
+    fn sync(&mut self) -> Result<(), Failed> {
+        self.faults = self.faults.saturating_add(1);
+        Err(Failed)
+    }
+
+    ghost image_is_whole = { λ _. tt };
+
+    ghost counts_now = { λ _ _ _ _ _ _. tt };
+
+    ghost only_now = { λ _ _ _ _. tt };
+}
+
+// How a sink takes its pieces.
+#[derive(Clone, Copy, Debug)]
+pub(crate) enum Way {
+    // At most so many bytes of a piece.
+    Pieces(usize),
+    // So many bytes in all, and nothing from then on.
+    Full(usize),
+    // The write with this number fails.
+    Fails(u64),
+    // The write with this number finds no memory.
+    NoMemory(u64),
+    // All, and a fault is counted at each write.
+    GetsOver,
+}
+
+// A sink that takes its pieces in one of these ways.
+#[derive(Drop)]
+pub(crate) struct SlowSink {
+    way: Way,
+    pub(crate) taken: Vec<u8>,
+    writes: u64,
+    pub(crate) faults: u64,
+}
+
+impl SlowSink {
+    pub(crate) fn new(alloc: Global, way: Way) -> SlowSink {
+        SlowSink {
+            way,
+            taken: Vec::new(alloc),
+            writes: 0,
+            faults: 0,
+        }
+    }
+
+    // Why the write is refused.
+    fn refusal(&self) -> Option<OutError> {
+        match self.way {
+            Way::Fails(at) if at == self.writes => Some(OutError::Failed),
+            Way::NoMemory(at) if at == self.writes => Some(OutError::NoMemory),
+            _ => None,
+        }
+    }
+
+    // How many bytes of a piece of this length are taken.
+    fn room(&self, length: usize) -> usize
+        ensures { result ≤ length }
+    {
+        match self.way {
+            Way::Pieces(most) => most.min(length),
+            Way::Full(all) => all.saturating_sub(self.taken.len()).min(length),
+            Way::Fails(_) | Way::NoMemory(_) | Way::GetsOver => length,
+        }
+    }
+
+    fn count_fault(&mut self)
+        ensures rose { Rose self.old.faults self.new.faults }
+        ensures later { self.old.faults ≤ self.new.faults }
+    {
+        self.faults = self.faults.saturating_add(1);
+    }
+}
+
+impl Sink for SlowSink {
+    ghost contents = { λ _. None };
+
+    ghost faults = { λ s. s.faults };
+
+    fn faults(&self) -> u64 {
+        self.faults
+    }
+
+    fn write(&mut self, piece: &[u8]) -> Result<usize, OutError> {
+        let refusal = self.refusal();
+        let room = self.room(piece.len());
+        self.writes = self.writes.saturating_add(1);
+        if room == 0
+            || matches!(refusal, Some(OutError::Failed))
+            || matches!(self.way, Way::GetsOver)
+        {
+            self.count_fault();
+        }
+        match refusal {
+            Some(error) => Err(error),
+            None => match self.taken.extend_from_slice(&piece[..room]) {
+                Ok(()) => Ok(room),
+                Err(_) => Err(OutError::NoMemory),
+            },
+        }
+    }
+}
