@@ -4,12 +4,14 @@
   check_program.py [PROGRAM]
 
 PROGRAM is crates/vcserve/out/vcserve where no other is named. It is not built here: `rt run` in
-crates/vcserve builds it (README.md). Each row runs it once and compares the exit status, the standard
-output and the standard error, and sees that the container has the same bytes after it. A row that is
-wrong is printed; the last line counts them. The status is 1 where one is wrong, and 77 where the package
-`cryptography` is missing.
+crates/vcserve builds it (README.md). Each row runs it once and compares the exit status, the
+standard output, the standard error and the container after it: the same bytes as before, or those
+that `format` has to make (check_format.py). A row that is wrong is printed; the last line counts
+them. What can't be tried on this machine is printed too.
+
+The status is 1 where a row is wrong. Else it is 77 where the package `cryptography` is missing,
+which all rows need, or libgcrypt, which those with Serpent and Twofish need.
 """
-import hashlib
 import os
 import shutil
 import subprocess
@@ -17,85 +19,14 @@ import sys
 import tempfile
 import time
 
+import check_format
 from independent_container import GROUP, SECTOR, make, pattern, read
+from program_rows import (LIMIT, LINES, PASSWORD, Rows, differences, differences_left, nobody,
+                          words_of)
 
 HERE = os.path.dirname(os.path.abspath(__file__))
 CRATE = os.path.join(HERE, "..", "crates", "vcserve")
 SMALL = os.path.join(CRATE, "data", "t1.vc")
-
-# What the program says on the standard error, by its exit status. Status 5 names the length too.
-LINES = {
-    0: "",
-    2: "vcserve: usage\n",
-    3: "vcserve: no valid header\n",
-    5: "vcserve: container length {}\n",
-    6: "vcserve: bad size\n",
-    7: "vcserve: container fault\n",
-    8: "vcserve: output fault\n",
-}
-
-# A run that takes longer hangs.
-LIMIT = 100
-
-PASSWORD = "correct horse"
-
-
-class Rows:
-    """Counts the rows, and tells the wrong ones."""
-
-    def __init__(self, program):
-        self.program = program
-        self.rows = 0
-        self.wrong = 0
-
-    def note(self, name, faults):
-        self.rows += 1
-        if faults:
-            self.wrong += 1
-            print(f"wrong: {name}: {'; '.join(faults)}", flush=True)
-
-    def row(self, name, words, status, out=b"", length=None, kept=None, **how):
-        """One run. `kept` is the file that has to stay as it is, by default the one that is named."""
-        kept = kept or (words[1] if len(words) > 1 else None)
-        before = fingerprint(kept)
-        try:
-            run = subprocess.run([self.program, *words], stdin=subprocess.DEVNULL, timeout=LIMIT,
-                                 **{"stdout": subprocess.PIPE, "stderr": subprocess.PIPE, **how})
-        except subprocess.TimeoutExpired:
-            return self.note(name, [f"no end after {LIMIT} s"])
-        faults = differences(run, status, out, LINES[status].format(length))
-        if fingerprint(kept) != before:
-            faults.append("the container has changed")
-        return self.note(name, faults)
-
-
-def differences(run, status, out, line):
-    faults = []
-    if run.returncode != status:
-        faults.append(f"status {run.returncode} in place of {status}")
-    if run.stdout is not None and run.stdout != out:
-        faults.append(f"{len(run.stdout)} bytes of output that differ from the {len(out)} asked ones")
-    if run.stderr is not None and run.stderr != line.encode():
-        faults.append(f"standard error {run.stderr!r} in place of {line!r}")
-    return faults
-
-
-def fingerprint(path):
-    """The bytes of a file, or of a long one its length and when it was written; None for what is none."""
-    try:
-        if not os.path.isfile(path):
-            return None
-        info = os.stat(path)
-        if info.st_size > 1 << 24:
-            return info.st_size, info.st_mtime_ns
-        with open(path, "rb") as file:
-            return hashlib.sha256(file.read()).digest(), info.st_mtime_ns
-    except (OSError, TypeError, ValueError):
-        return None
-
-
-def words_of(path, first, count, password=PASSWORD, pim="1"):
-    return ["cat", path, str(first), str(count), "--password", password, "--pim", str(pim)]
 
 
 def changed_copy(path, copy, change):
@@ -116,6 +47,11 @@ def flipped(at, bit):
 
 def small_container(rows, small, folder):
     two = bytes(range(256)) * 2
+    again = os.path.join(folder, "again.vc")
+    make(again, 2 * GROUP + SECTOR, PASSWORD, 1, zeros=True)
+    with open(small, "rb") as file:
+        faults = differences_left(again, file.read())
+    rows.note("small container: the script makes it again", faults)
     for first, count, password, pim, status, out in [
         (0, 1, PASSWORD, 1, 0, two),
         (0, 0, PASSWORD, 1, 0, b""),
@@ -181,7 +117,8 @@ def written_headers(rows, folder):
         ("a start in the last sector", {"start": size - GROUP - SECTOR, "volume": SECTOR}, 0),
     ]:
         make(path, size, PASSWORD, 1, **changed)
-        rows.row(f"header: {name}", words_of(path, 0, 1), status, pattern(0) if status == 0 else b"")
+        out = pattern(0) if status == 0 else b""
+        rows.row(f"header: {name}", words_of(path, 0, 1), status, out)
 
 
 def made_containers(rows, folder):
@@ -211,13 +148,13 @@ def made_containers(rows, folder):
         whole = read(path, 0, sectors, password, pim)
         for first, count in parts:
             out = whole[first * SECTOR:(first + count) * SECTOR]
-            rows.row(f"{name}: {first} {count}", words_of(path, first, count, password, pim), 0, out)
+            words = words_of(path, first, count, password, pim)
+            rows.row(f"{name}: {first} {count}", words, 0, out)
         rows.row(f"{name}: past the end", words_of(path, sectors, 1, password, pim), 6)
 
 
 def bad_words(rows, small):
     right = words_of(small, 0, 1)
-    two = bytes(range(256)) * 2
     rows.row("no words", [], 2, kept=small)
     for name, words in [
         ("one word", right[:1]),
@@ -230,8 +167,26 @@ def bad_words(rows, small):
         ("empty command", ["", *right[1:]]),
         ("unknown option for --password", [*right[:4], "--pass", *right[5:]]),
         ("unknown option for --pim", [*right[:6], "--PIM", *right[7:]]),
-        ("options exchanged", [*right[:4], "--pim", "1", "--password", PASSWORD]),
-        ("an equals sign", [*right[:4], f"--password={PASSWORD}", "", "--pim", "1"]),
+        ("no sectors", [*right[:2], *right[4:]]),
+        ("no count", [*right[:3], *right[4:]]),
+        ("no password", [*right[:4], *right[6:]]),
+        ("password twice", [*right, "--password", PASSWORD]),
+        ("password twice, once with an equals sign", [*right, f"--password={PASSWORD}"]),
+        ("PIM twice", [*right, "--pim=1"]),
+        ("an equals sign and a word more", [*right[:4], f"--password={PASSWORD}", "", *right[6:]]),
+        ("an equals sign and no value", [*right[:4], "--password=", "--pim", "1"]),
+        ("a PIM of no digits", [*right[:6], "--pim="]),
+        ("an option in the value's place", [*right[:4], "--password", "--pim", "1"]),
+        ("a value that begins with a hyphen", words_of(small, 0, 1, "-x")),
+        ("one hyphen", [*right[:4], "-password", *right[5:]]),
+        ("three hyphens", [*right[:4], "---password", *right[5:]]),
+        ("a hyphen alone", [*right, "-"]),
+        ("an option of no name", [*right, "--=x"]),
+        ("unknown option with a value", [*right, "--colour=red"]),
+        ("an option of other commands", [*right, "--size", "1"]),
+        ("a flag with a value", [*right, "--backup=1"]),
+        ("unknown kind", [*right, "--kind", "all"]),
+        ("empty kind", [*right, "--kind="]),
         ("empty password", words_of(small, 0, 1, "")),
         ("password of 129 bytes", words_of(small, 0, 1, "a" * 129)),
         ("password of 129 bytes in 128 characters", words_of(small, 0, 1, "a" * 127 + "ä")),
@@ -240,8 +195,13 @@ def bad_words(rows, small):
         ("PIM 2^32 + 1", words_of(small, 0, 1, pim=(1 << 32) + 1)),
     ]:
         rows.row(f"words: {name}", words, 2, kept=small)
-    for bad in ["", "+1", "-1", "-0", "0" * 20 + "1", str(1 << 64), "9" * 20, " 1", "1 ", "0x1", "1_0", "1.0", "one",
-                "１", "1\n", "9" * 40]:
+
+
+def numbers(rows, small):
+    right = words_of(small, 0, 1)
+    two = bytes(range(256)) * 2
+    for bad in ["", "+1", "-1", "-0", "0" * 20 + "1", str(1 << 64), "9" * 20, " 1", "1 ", "0x1",
+                "1_0", "1.0", "one", "１", "1\n", "9" * 40]:
         for i, place in [(2, "first"), (3, "count"), (7, "PIM")]:
             rows.row(f"{place} {bad!r}", [*right[:i], bad, *right[i + 1:]], 2)
     for name, words, status, out in [
@@ -253,9 +213,93 @@ def bad_words(rows, small):
     ]:
         rows.row(f"words: {name}", words, status, out)
     top = (1 << 64) - 1
-    for first, count in [(0, 2), (2, 0), (top, 0), (top, 1), (top, 2), (1, top), (0, top), (1 << 63, 1 << 63),
-                         (0, 1 << 55), (1 << 55, 0), (1 << 55, 1), (0, (1 << 55) + 1), (top - 255, 257)]:
+    for first, count in [(0, 2), (2, 0), (top, 0), (top, 1), (top, 2), (1, top), (0, top),
+                         (1 << 63, 1 << 63), (0, 1 << 55), (1 << 55, 0), (1 << 55, 1),
+                         (0, (1 << 55) + 1), (top - 255, 257)]:
         rows.row(f"past the end: {first} {count}", words_of(small, first, count), 6)
+
+
+def words_in_order(rows, small):
+    """The same words in other orders, and values behind an equals sign."""
+    two = bytes(range(256)) * 2
+    name, path, first, count, *options = words_of(small, 0, 1)
+    for words, status in [
+        ([path, first, count, "--pim", "1", "--password", PASSWORD], 0),
+        ([*options, path, first, count], 0),
+        ([path, "--password", PASSWORD, first, "--pim", "1", count], 0),
+        (["--pim=1", path, first, f"--password={PASSWORD}", count], 0),
+        (["--kind=standard", path, first, count, *options], 0),
+        ([path, first, *options, "--kind", "any", count], 0),
+        ([path, first, count, *options, "--"], 0),
+        ([path, first, count, f"--password={PASSWORD}", "--pim=001"], 0),
+        # these open nothing, but they are words of a command
+        ([path, first, count, "--password=-x", "--pim=1"], 3),
+        ([path, first, count, "--password=", "--pim=1"], 2),
+        ([path, first, count, "--password==", "--pim=1"], 3),
+        ([path, first, count, "--password=--", "--pim=1"], 3),
+        ([path, first, count, "--password", "a=b", "--pim=1"], 3),
+        ([path, first, count, f"--password={PASSWORD} ", "--pim=1"], 3),
+    ]:
+        told = " ".join(word if word != path else "PATH" for word in words)
+        out = two if status == 0 else b""
+        rows.row(f"words: {told}", [name, *words], status, out, kept=small)
+
+
+def client_files(rows, small, folder):
+    """The words after `--` are pairs of files, and only `serve` has them."""
+    right = words_of(small, 0, 1)
+    opening = [small, "--password", PASSWORD, "--pim", "1"]
+    a, b, c = (os.path.join(folder, f"client_{letter}") for letter in "abc")
+    for name, words in [
+        ("cat and a file", [*right, "--", a]),
+        ("cat and a pair", [*right, "--", a, b]),
+        ("cat and an empty word", [*right, "--", ""]),
+        ("cat, and its words after the dashes", ["cat", "--", *right[1:]]),
+        ("cat, and dashes twice", [*right, "--", "--"]),
+        ("the dashes as the password", [*right[:4], "--password", "--", "--pim", "1"]),
+        ("dashes first", ["--", "serve", *opening]),
+        ("dashes alone", ["--"]),
+        ("no command and a pair", ["--", a, b]),
+        ("unknown command and a pair", ["dog", *opening, "--", a, b]),
+        ("serve and one file", ["serve", *opening, "--", a]),
+        ("serve and three files", ["serve", *opening, "--", a, b, c]),
+        ("serve, bad words and a pair", ["serve", *opening, "--pim", "1", "--", a, b]),
+        ("passwd and a pair", ["passwd", *opening, "--new", "x", "--random", "0" * 64, "--", a, b]),
+    ]:
+        rows.row(f"client files: {name}", words, 2, kept=small)
+        made = [file for file in (a, b, c) if os.path.exists(file)]
+        rows.note(f"client files: {name}: what is made", made)
+
+
+def order_of_refusals(rows, folder):
+    """Bad words are told before a file is opened, and next a file that can't be opened."""
+    missing = os.path.join(folder, "missing.vc")
+    options = ["--password", PASSWORD, "--pim", "1"]
+    random = ["--random", "0" * 64]
+    for name, positions, more, status in [
+        ("cat", ["0", "1"], [], 7),
+        ("cat", ["0", "x"], [], 2),
+        ("cat", ["0"], [], 2),
+        ("cat", ["0", "1"], ["--", missing], 2),
+        ("cat", ["0", "1"], ["--", missing, missing], 2),
+        ("cat", [str((1 << 64) - 1), "1"], [], 7),
+        ("cat", [str(1 << 64), "1"], [], 2),
+        ("info", [], [], 7),
+        ("info", ["0"], [], 2),
+        ("hide", [], ["--size", "1", *random], 7),
+        ("hide", [], random, 2),
+        ("passwd", [], ["--new", "x", *random], 7),
+        ("passwd", [], random, 2),
+        ("restore", [], random, 7),
+        ("restore", [], [*random, "--backup"], 2),
+        ("serve", [], [], 7),
+        ("serve", [], ["--", missing, missing], 7),
+        ("serve", [], ["--", missing], 2),
+        ("serve", [], ["--workers", "0"], 2),
+    ]:
+        told = f"missing file: {name} {positions} {more}"
+        rows.row(told, [name, missing, *positions, *options, *more], status)
+        rows.note(f"{told}: not made", ["it is made"] if os.path.exists(missing) else [])
 
 
 def bad_files(rows, small, folder):
@@ -276,20 +320,26 @@ def bad_files(rows, small, folder):
     unreadable = os.path.join(folder, "unreadable.vc")
     shutil.copy(small, unreadable)
     os.chmod(unreadable, 0)
-    # nobody may be kept from a file by its mode, but for the superuser
-    nobody = {"user": 65534, "group": 65534, "extra_groups": []} if os.geteuid() == 0 else {}
-    rows.row("unreadable file", words_of(unreadable, 0, 1), 7, **nobody)
-    os.chmod(unreadable, 0o400)
+    rows.row("unreadable file", words_of(unreadable, 0, 1), 7, **nobody())
+    os.chmod(unreadable, 0o444)
+    two = bytes(range(256)) * 2
+    rows.row("file that may only be read", words_of(unreadable, 0, 1), 0, two, **nobody())
 
 
 def bad_outputs(rows, small, folder):
-    right = words_of(small, 0, 1)
+    right, wrong = words_of(small, 0, 1), words_of(small, 0, 1, "wrong horse")
     with open("/dev/full", "wb") as full:
         rows.row("full output", right, 8, stdout=full)
         rows.row("full output, nothing to write", words_of(small, 0, 0), 0, stdout=full)
-        rows.row("full output, wrong password", words_of(small, 0, 1, "wrong horse"), 3, stdout=full)
+        rows.row("full output, wrong password", wrong, 3, stdout=full)
+    # The container that is opened next must not get a closed descriptor, or it takes the output.
     rows.row("closed output", right, 8, stdout=None, preexec_fn=lambda: os.close(1))
-    rows.row("closed standard error", ["dog", *right[1:]], 2, stderr=None, preexec_fn=lambda: os.close(2))
+    rows.row("closed input and output", right, 8, stdout=None,
+             preexec_fn=lambda: [os.close(i) for i in range(2)])
+    rows.row("closed standard error", ["dog", *right[1:]], 2, stderr=None,
+             preexec_fn=lambda: os.close(2))
+    rows.row("closed standard error, wrong password", wrong, 3, stderr=None,
+             preexec_fn=lambda: os.close(2))
     rows.row("all three closed", right, 8, stdout=None, stderr=None,
              preexec_fn=lambda: [os.close(i) for i in range(3)])
     reader, writer = os.pipe()
@@ -310,7 +360,8 @@ def reader_leaves(rows, large):
     line = run.stderr.read()
     run.stderr.close()
     done = subprocess.CompletedProcess(run.args, run.wait(LIMIT), front, line)
-    rows.note("reader leaves after 1000 bytes", differences(done, 8, (pattern(0) + pattern(1))[:1000], LINES[8]))
+    right = (pattern(0) + pattern(1))[:1000]
+    rows.note("reader leaves after 1000 bytes", differences(done, 8, right, LINES[8]))
 
 
 def sparse(rows, folder):
@@ -319,8 +370,7 @@ def sparse(rows, folder):
     try:
         make(path, 1 << 40, PASSWORD, 1)
     except OSError as error:
-        print(f"left out: a container of 2^40 bytes: {error}")
-        return
+        return rows.leave_out("a container of 2^40 bytes", error)
     last = ((1 << 40) - 2 * GROUP) // SECTOR - 1
     best = {}
     for _ in range(3):
@@ -330,7 +380,8 @@ def sparse(rows, folder):
             best[i] = min(best.get(i, LIMIT), time.monotonic() - begin)
     rows.row("2^40 bytes: past the end", words_of(path, last, 2), 6)
     print(f"2^40 bytes: first sector {best[0]:.3f} s, last sector {best[last]:.3f} s")
-    rows.note("the last sector as fast as the first", ["it is slower"] if best[last] > 1.5 * best[0] + 0.05 else [])
+    is_slower = best[last] > 1.5 * best[0] + 0.05
+    rows.note("the last sector as fast as the first", ["it is slower"] if is_slower else [])
     os.remove(path)
 
 
@@ -341,8 +392,7 @@ def limits(rows, folder):
     try:
         make(path, longest, PASSWORD, 1)
     except OSError as error:
-        print(f"left out: containers of 2^60 bytes: {error}")
-        return
+        return rows.leave_out("containers of 2^60 bytes", error)
     last = (longest - 2 * GROUP) // SECTOR - 1
     rows.row("2^60 bytes: last sector", words_of(path, last, 1), 0, pattern(last))
     with open(path, "r+b") as file:
@@ -363,16 +413,21 @@ def main(words):
         rows = Rows(copy)
         small_container(rows, small, folder)
         bad_words(rows, small)
+        numbers(rows, small)
+        words_in_order(rows, small)
+        client_files(rows, small, folder)
+        order_of_refusals(rows, folder)
         bad_files(rows, small, folder)
         bad_outputs(rows, small, folder)
         written_headers(rows, folder)
         made_containers(rows, folder)
+        check_format.check(rows, small, folder)
         sparse(rows, folder)
         memory = "/dev/shm" if os.path.isdir("/dev/shm") else folder
         with tempfile.TemporaryDirectory(dir=memory) as folder_of_memory:
             limits(rows, folder_of_memory)
     print(f"program: {rows.rows - rows.wrong} passed, {rows.wrong} failed")
-    sys.exit(1 if rows.wrong else 0)
+    sys.exit(1 if rows.wrong else 77 if rows.is_package_missing else 0)
 
 
 if __name__ == "__main__":

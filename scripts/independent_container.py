@@ -1,16 +1,29 @@
 #!/usr/bin/env python3
-"""VeraCrypt containers by another program: Python's standard library, and AES-XTS from `cryptography`.
+"""VeraCrypt containers by another program: the eight algorithms, each under both PRFs.
 
-It shares no line with vcserve and follows the published formats: RFC 8018 by hashlib, CRC-32 by zlib,
-IEEE 1619 by cryptography's XTS mode. Standard headers with AES and SHA-512.
+It shares no line with vcserve and follows the published formats: RFC 8018 by hashlib, CRC-32 by
+zlib, IEEE 1619 over AES and ChaCha20 by the package `cryptography`, IEEE 1619 over Serpent and
+Twofish by libgcrypt. The headers are standard ones, and with `format` their backups.
 
-  independent_container.py make FILE SIZE PASSWORD PIM [--zeros]
-      a container of SIZE bytes. Its sector i holds the bytes (i + j) mod 256 for j from 0 to 511, or,
-      from the second MiB on, nothing that was enciphered. Salt and master keys are made from a seed.
-      --zeros: the small test container: zero salt, master keys 00 to 3f, one sector with 00 to ff twice
-  independent_container.py cat FILE FIRST COUNT PASSWORD PIM
+  independent_container.py make FILE SIZE PASSWORD PIM [--zeros] [--prf NAME] [--algorithm NAME]
+      a container of SIZE bytes. Its sector i holds the bytes (i + j) mod 256 for j from 0 to
+      511, or, from the second MiB on, nothing that was enciphered. Salt and master keys are made
+      from a seed. --zeros: as the small test container: zero salt, master keys 00, 01 and so on
+  independent_container.py cat FILE FIRST COUNT PASSWORD PIM [--prf NAME] [--algorithm NAME]
       writes COUNT sectors from FIRST on, deciphered
+  independent_container.py format FILE SIZE PASSWORD PIM KEY [--prf NAME] [--algorithm NAME]
+      a formatted container of SIZE bytes: ChaCha20 under KEY, 64 hexadecimal digits, fills it and
+      gives the master keys after that; the standard header and its backup take salts from the fill
+
+The PRFs are sha512, which stands where none is named, and sha256. The algorithms are the names in
+ALGORITHMS, aes where none is named. The status is 77 where `cryptography` is missing, or libgcrypt
+for an algorithm with Serpent or Twofish.
 """
+import argparse
+import collections
+import ctypes
+import ctypes.util
+import functools
 import hashlib
 import struct
 import sys
@@ -25,24 +38,110 @@ except ImportError:
 GROUP = 131072
 SECTOR = 512
 
+# In the order in which opening tries them.
+PRFS = ["sha512", "sha256"]
+
+# By name, the ciphers in the order of enciphering.
+ALGORITHMS = {
+    "aes": ["aes"],
+    "serpent": ["serpent"],
+    "twofish": ["twofish"],
+    "aes-twofish": ["twofish", "aes"],
+    "aes-twofish-serpent": ["serpent", "twofish", "aes"],
+    "serpent-aes": ["aes", "serpent"],
+    "serpent-twofish-aes": ["aes", "twofish", "serpent"],
+    "twofish-serpent": ["serpent", "twofish"],
+}
+
+# libgcrypt's names, and its number for XTS.
+GCRYPT_NAMES = {"aes": b"AES256", "serpent": b"SERPENT256", "twofish": b"TWOFISH"}
+GCRYPT_XTS = 13
+
+Fields = collections.namedtuple("Fields", "hidden volume start encrypted flags sector material")
+
+
+@functools.lru_cache(maxsize=None)
+def gcrypt():
+    """The library libgcrypt, or None where it is missing or knows no XTS."""
+    found = ctypes.util.find_library("gcrypt")
+    if found is None:
+        return None
+    library = ctypes.CDLL(found)
+    library.gcry_check_version.restype = ctypes.c_char_p
+    library.gcry_check_version(None)
+    handle = ctypes.c_void_p()
+    number = library.gcry_cipher_map_name(GCRYPT_NAMES["serpent"])
+    if library.gcry_cipher_open(ctypes.byref(handle), number, GCRYPT_XTS, 0) != 0:
+        return None
+    library.gcry_cipher_close(handle)
+    return library
+
+
+def is_available(algorithm):
+    return ALGORITHMS[algorithm] == ["aes"] or gcrypt() is not None
+
+
+def gcrypt_handle(cipher, mode, keys):
+    """A handle of libgcrypt for a cipher with its keys, which has to be closed."""
+    library = gcrypt()
+    handle = ctypes.c_void_p()
+    number = library.gcry_cipher_map_name(GCRYPT_NAMES[cipher])
+    assert library.gcry_cipher_open(ctypes.byref(handle), number, mode, 0) == 0
+    assert library.gcry_cipher_setkey(handle, keys, len(keys)) == 0
+    return handle
+
+
+def gcrypt_xts(cipher, keys, unit, data, enciphering):
+    library = gcrypt()
+    handle = gcrypt_handle(cipher, GCRYPT_XTS, keys)
+    call = library.gcry_cipher_encrypt if enciphering else library.gcry_cipher_decrypt
+    out = ctypes.create_string_buffer(len(data))
+    assert library.gcry_cipher_setiv(handle, unit, len(unit)) == 0
+    assert call(handle, out, len(data), bytes(data), len(data)) == 0
+    library.gcry_cipher_close(handle)
+    return out.raw
+
+
+def xts(cipher, keys, unit, data, enciphering):
+    """One cipher's pass over a data unit; the keys are the main key and then the tweak key."""
+    number = struct.pack("<QQ", unit, 0)
+    if cipher != "aes":
+        return gcrypt_xts(cipher, keys, number, data, enciphering)
+    mode = Cipher(algorithms.AES(keys), modes.XTS(number))
+    work = mode.encryptor() if enciphering else mode.decryptor()
+    return work.update(data) + work.finalize()
+
+
+def passes(algorithm, keys):
+    """The ciphers in the order of enciphering, each with its two keys; all main keys come first."""
+    ciphers = ALGORITHMS[algorithm]
+    parts = [keys[32 * i:32 * i + 32] for i in range(2 * len(ciphers))]
+    pairs = [main + tweak for main, tweak in zip(parts, parts[len(ciphers):])]
+    return list(zip(ciphers, pairs))
+
+
+def encipher(keys, unit, plain, algorithm="aes"):
+    for cipher, pair in passes(algorithm, keys):
+        plain = xts(cipher, pair, unit, plain, True)
+    return plain
+
+
+def decipher(keys, unit, ciphertext, algorithm="aes"):
+    for cipher, pair in reversed(passes(algorithm, keys)):
+        ciphertext = xts(cipher, pair, unit, ciphertext, False)
+    return ciphertext
+
 
 def iterations(pim):
     return 500000 if pim == 0 else 15000 + 1000 * pim
 
 
-def xts(keys, unit):
-    # cryptography takes the main key and the tweak key as one
-    return Cipher(algorithms.AES(keys[:64]), modes.XTS(struct.pack("<QQ", unit, 0)))
+def key_length(algorithm):
+    return 64 * len(ALGORITHMS[algorithm])
 
 
-def encipher(keys, unit, plain):
-    work = xts(keys, unit).encryptor()
-    return work.update(plain) + work.finalize()
-
-
-def decipher(keys, unit, ciphertext):
-    work = xts(keys, unit).decryptor()
-    return work.update(ciphertext) + work.finalize()
+def derive(password, salt, pim, prf="sha512", algorithm="aes"):
+    return hashlib.pbkdf2_hmac(prf, password.encode(), salt, iterations(pim), key_length(algorithm))
 
 
 def body(volume, start, material, *, hidden=0, encrypted=None, flags=0, sector=512, magic=b"VERA",
@@ -56,17 +155,30 @@ def body(volume, start, material, *, hidden=0, encrypted=None, flags=0, sector=5
     return front + struct.pack(">I", zlib.crc32(front) ^ fields_xor) + keys
 
 
-def derive(password, salt, pim):
-    return hashlib.pbkdf2_hmac("sha512", password.encode(), salt, iterations(pim), 64)
+def fields_of(plain):
+    """The fields of a deciphered body, or None where its magic or a checksum is wrong."""
+    keys, fields = struct.unpack(">I", plain[8:12]) + struct.unpack(">I", plain[188:192])
+    if plain[:4] != b"VERA" or zlib.crc32(plain[:188]) != fields or zlib.crc32(plain[192:]) != keys:
+        return None
+    return Fields(*struct.unpack(">QQQQII", plain[28:68]), plain[192:384])
 
 
-def header(password, pim, salt, plain):
-    return salt + encipher(derive(password, salt, pim), 0, plain)
+def header(password, pim, salt, plain, prf="sha512", algorithm="aes"):
+    return salt + encipher(derive(password, salt, pim, prf, algorithm), 0, plain, algorithm)
 
 
-def seeded(size, password, pim):
+def header_fields(path, place, password, pim, prf="sha512", algorithm="aes"):
+    """The fields of the header at a place of the container; None where it is not valid."""
+    with open(path, "rb") as file:
+        file.seek(place)
+        head = file.read(SECTOR)
+    keys = derive(password, head[:64], pim, prf, algorithm)
+    return fields_of(decipher(keys, 0, head[64:], algorithm))
+
+
+def seeded(size, password, pim, algorithm):
     """Salt and master keys, as good as random."""
-    seed = hashlib.shake_256(f"{password} {pim} {size}".encode()).digest(128)
+    seed = hashlib.shake_256(f"{password} {pim} {size}".encode()).digest(64 + key_length(algorithm))
     return seed[:64], seed[64:]
 
 
@@ -75,49 +187,86 @@ def pattern(i):
     return bytes((i + j) % 256 for j in range(SECTOR))
 
 
-def make(path, size, password, pim, zeros=False, *, volume=None, start=GROUP, **changed):
+def make(path, size, password, pim, zeros=False, *, prf="sha512", algorithm="aes", volume=None,
+         start=GROUP, **changed):
     """Writes a container; `changed` goes to the header's body."""
     # the whole sectors between the header groups
     room = (size - 2 * GROUP) // SECTOR * SECTOR
     volume = room if volume is None else volume
-    salt, material = (bytes(64), bytes(range(64))) if zeros else seeded(size, password, pim)
+    salt, material = seeded(size, password, pim, algorithm)
+    if zeros:
+        salt, material = bytes(64), bytes(range(key_length(algorithm)))
     with open(path, "wb") as file:
         file.truncate(size)
-        file.write(header(password, pim, salt, body(volume, start, material, **changed)))
+        plain = body(volume, start, material, **changed)
+        file.write(header(password, pim, salt, plain, prf, algorithm))
         count = (min(volume, size - GROUP - start)) // SECTOR
         # the last sector too, wherever it is
         for i in [*range(min(count, (1 << 20) // SECTOR)), *([count - 1] if count else [])]:
             file.seek(start + i * SECTOR)
-            file.write(encipher(material, start // SECTOR + i, pattern(i)))
+            file.write(encipher(material, start // SECTOR + i, pattern(i), algorithm))
 
 
-def read(path, first, count, password, pim):
+def formatted(size, password, pim, key, prf="sha512", algorithm="aes"):
+    """The image of a formatted container; the random stream's block counter and nonce are 0."""
+    zeros = bytes(size + key_length(algorithm))
+    stream = Cipher(algorithms.ChaCha20(key, bytes(16)), mode=None).encryptor().update(zeros)
+    image = bytearray(stream[:size])
+    plain = body(size - 2 * GROUP, GROUP, stream[size:])
+    for place in (0, size - GROUP):
+        salt = stream[place:place + 64]
+        image[place:place + SECTOR] = header(password, pim, salt, plain, prf, algorithm)
+    return bytes(image)
+
+
+def read(path, first, count, password, pim, prf="sha512", algorithm="aes"):
     """The deciphered sectors; None where the header is not valid."""
+    fields = header_fields(path, 0, password, pim, prf, algorithm)
+    if fields is None:
+        return None
+    unit = fields.start // SECTOR + first
     with open(path, "rb") as file:
-        head = file.read(512)
-        plain = decipher(derive(password, head[:64], pim), 0, head[64:])
-        if plain[:4] != b"VERA" or zlib.crc32(plain[:188]) != struct.unpack(">I", plain[188:192])[0]:
-            return None
-        if zlib.crc32(plain[192:]) != struct.unpack(">I", plain[8:12])[0]:
-            return None
-        start = struct.unpack(">Q", plain[44:52])[0]
-        material = plain[192:256]
-        file.seek(start + first * SECTOR)
-        unit = start // SECTOR + first
-        return b"".join(decipher(material, unit + i, file.read(SECTOR)) for i in range(count))
+        file.seek(unit * SECTOR)
+        sectors = [file.read(SECTOR) for _ in range(count)]
+    return b"".join(decipher(fields.material, unit + i, sector, algorithm)
+                    for i, sector in enumerate(sectors))
 
 
-def main(words):
-    if len(words) >= 5 and words[0] == "make":
-        make(words[1], int(words[2]), words[3], int(words[4]), "--zeros" in words[5:])
-    elif len(words) == 6 and words[0] == "cat":
-        plain = read(words[1], int(words[2]), int(words[3]), words[4], int(words[5]))
+def arguments():
+    top = argparse.ArgumentParser(description=__doc__,
+                                  formatter_class=argparse.RawDescriptionHelpFormatter)
+    commands = top.add_subparsers(dest="command", required=True)
+    for command, words in [("make", "size password pim"), ("cat", "first count password pim"),
+                           ("format", "size password pim key")]:
+        parser = commands.add_parser(command)
+        parser.add_argument("file")
+        for word in words.split():
+            parser.add_argument(word, type={"password": str, "key": bytes.fromhex}.get(word, int))
+        parser.add_argument("--prf", choices=PRFS, default=PRFS[0])
+        parser.add_argument("--algorithm", choices=ALGORITHMS, default="aes")
+        if command == "make":
+            parser.add_argument("--zeros", action="store_true")
+    return top.parse_args()
+
+
+def main(a):
+    if not is_available(a.algorithm):
+        print("skipped: libgcrypt is missing", file=sys.stderr)
+        return 77
+    how = {"prf": a.prf, "algorithm": a.algorithm}
+    if a.command == "make":
+        make(a.file, a.size, a.password, a.pim, a.zeros, **how)
+    elif a.command == "format":
+        image = formatted(a.size, a.password, a.pim, a.key, **how)
+        with open(a.file, "wb") as file:
+            file.write(image)
+    else:
+        plain = read(a.file, a.first, a.count, a.password, a.pim, **how)
         if plain is None:
             sys.exit("no valid header")
         sys.stdout.buffer.write(plain)
-    else:
-        sys.exit(__doc__)
+    return 0
 
 
 if __name__ == "__main__":
-    main(sys.argv[1:])
+    sys.exit(main(arguments()))

@@ -1,18 +1,31 @@
 #!/usr/bin/env python3
-"""How fast the built program opens and deciphers, beside yardsticks measured in the same run.
+"""How fast the built program is, beside yardsticks measured in the same run.
 
-  speed.py [PROGRAM]
+  speed.py [PROGRAM [MEASURE ..]]
 
 PROGRAM is crates/vcserve/out/vcserve where no other is named; `rt run` in crates/vcserve builds it.
-All times are processor times, so that other work on the machine counts little, and each is the best of
-seven, program and yardstick in turn: on a shared machine a single one may be twice as long.
+Where no measure is named all are taken. Times are processor times where nothing else is said, so
+that other work on the machine counts little, and each is the best of several turns, program and
+yardstick in turn: on a shared machine a single one may be twice as long.
 
-opening      `cat FILE 0 0` with PIM 0, against hashlib's PBKDF2 of the same 192 bytes by 500,000 iterations
-deciphering  `cat` of 64 MiB with PIM 1, less the time of `cat FILE 0 0`, against OpenSSL's AES-256-XTS over
-             units of 512 bytes, with and without the processor's AES instructions
+opening      `cat FILE 0 0` with PIM 0, against hashlib's PBKDF2 of the same 192 bytes by 500,000
+             iterations
+failing      `cat` with a wrong password and PIM 1, of the standard header: two derivations of
+             16,000 iterations, and 16 bodies tried. With PIM 65 each is of 64,000 iterations more
+             and all else is the same, so that a quarter of the difference is the time of the two
+             derivations alone, which is the first yardstick. The other is hashlib's two derivations
+formatting   `format` of 256 MiB with PIM 1, in all against `dd` from /dev/zero with conv=fsync by
+             the clock; and less `format` of the smallest container, which has the same
+             derivations, against OpenSSL's ChaCha20
+deciphering  `cat` of 32 MiB with PIM 1, less `cat FILE 0 0`, for each cipher and the longest
+             cascade, against libgcrypt's XTS over one stretch of 64 KiB and its bare cipher block
+             by block; for AES also against OpenSSL's XTS over units of 512 bytes, with and without
+             the processor's AES instructions. For the cascade the yardsticks' times are added
 
-It judges nothing: the status is 0, but 77 where the package `cryptography` is missing.
+It judges nothing: the status is 0, but 77 where the package `cryptography` is missing. A yardstick
+that is missing is told and left out.
 """
+import ctypes
 import hashlib
 import os
 import platform
@@ -24,65 +37,175 @@ import sys
 import tempfile
 import time
 
-from independent_container import GROUP, SECTOR, make
+from independent_container import (ALGORITHMS, GCRYPT_XTS, GROUP, SECTOR, gcrypt, gcrypt_handle,
+                                   is_available, make)
 
 HERE = os.path.dirname(os.path.abspath(__file__))
+PROGRAM = os.path.join(HERE, "..", "crates", "vcserve", "out", "vcserve")
 PASSWORD = "correct horse"
 TURNS = 7
-MIB = 64
+# Fewer where a turn writes or deciphers much.
+LONG_TURNS = 3
+FORMAT_MIB = 256
+CAT_MIB = 32
+GCRYPT_ECB = 1
 # The bits of AES in OpenSSL's variable for the processor's instructions.
 NO_AES = {"OPENSSL_ia32cap": "~0x200000200000000"}
 
 
-def program_time(program, path, count, pim, system):
-    """The user time of one run in seconds, with the system's share where that is asked."""
+def processor_time(words, status=0):
+    """The processor time of one run in seconds, user and system."""
     before = resource.getrusage(resource.RUSAGE_CHILDREN)
-    words = [program, "cat", path, "0", str(count), "--password", PASSWORD, "--pim", str(pim)]
-    subprocess.run(words, stdin=subprocess.DEVNULL, stdout=subprocess.DEVNULL, check=True)
+    run = subprocess.run(words, stdin=subprocess.DEVNULL, stdout=subprocess.DEVNULL,
+                         stderr=subprocess.DEVNULL)
     after = resource.getrusage(resource.RUSAGE_CHILDREN)
-    time_of_user = after.ru_utime - before.ru_utime
-    return time_of_user + (after.ru_stime - before.ru_stime if system else 0)
+    if run.returncode != status:
+        sys.exit(f"status {run.returncode} in place of {status}: {' '.join(words)}")
+    return after.ru_utime - before.ru_utime + after.ru_stime - before.ru_stime
 
 
-def hashlib_time():
+def cat_time(program, path, count, pim, password=PASSWORD, status=0):
+    words = [program, "cat", path, "0", str(count), "--password", password, "--pim", str(pim)]
+    return processor_time([*words, "--kind", "standard"], status)
+
+
+def hashlib_time(prf, iterations):
     begin = time.process_time()
-    hashlib.pbkdf2_hmac("sha512", PASSWORD.encode(), bytes(64), 500000, dklen=192)
+    hashlib.pbkdf2_hmac(prf, PASSWORD.encode(), bytes(64), iterations, dklen=192)
     return time.process_time() - begin
+
+
+def best(turns, *measures):
+    """The least of several turns for each measure; the measures go in turn."""
+    rounds = [[measure() for measure in measures] for _ in range(turns)]
+    return [min(times) for times in zip(*rounds)]
 
 
 def opening(program, folder):
     path = os.path.join(folder, "pim_0.vc")
     make(path, 2 * GROUP + SECTOR, PASSWORD, 0)
-    ours, theirs = [], []
-    for _ in range(TURNS):
-        ours.append(program_time(program, path, 0, 0, system=False))
-        theirs.append(hashlib_time())
-    ours, theirs = min(ours), min(theirs)
-    print(f"opening: {ours:.3f} s, hashlib {theirs:.3f} s, ratio {ours / theirs:.2f} (at most 1.00)")
+    ours, theirs = best(
+        TURNS,
+        lambda: cat_time(program, path, 0, 0),
+        lambda: hashlib_time("sha512", 500000))
+    print(f"opening: {ours:.3f} s")
+    print(f"  hashlib {theirs:.3f} s, ratio {ours / theirs:.2f} (at most 1.00)")
+
+
+def failing(program, folder):
+    path = os.path.join(folder, "failing.vc")
+    make(path, 2 * GROUP + SECTOR, PASSWORD, 1)
+    ours, longer, sha512, sha256 = best(
+        TURNS,
+        lambda: cat_time(program, path, 0, 1, "wrong horse", 3),
+        lambda: cat_time(program, path, 0, 65, "wrong horse", 3),
+        lambda: hashlib_time("sha512", 16000),
+        lambda: hashlib_time("sha256", 16000))
+    alone = (longer - ours) / 4
+    theirs = sha512 + sha256
+    print(f"failing: {1e3 * ours:.1f} ms")
+    print(f"  two derivations alone {1e3 * alone:.1f} ms, ratio {ours / alone:.3f} (at most 1.05)")
+    print(f"  hashlib's two derivations {1e3 * theirs:.1f} ms, ratio {ours / theirs:.2f}")
+
+
+def clock_time(words):
+    begin = time.monotonic()
+    subprocess.run(words, stdin=subprocess.DEVNULL, capture_output=True, check=True)
+    return time.monotonic() - begin
+
+
+def formatting(program, folder):
+    path = os.path.join(folder, "new")
+    size = FORMAT_MIB << 20
+
+    def new(measure, words):
+        # writing a new file is not what writing over one is
+        if os.path.exists(path):
+            os.remove(path)
+        return measure(words)
+
+    words = [program, "format", path, "--password", PASSWORD, "--random", "0f" * 32, "--pim", "1"]
+    large = [*words, "--size", str(size)]
+    small = [*words, "--size", str(2 * GROUP + SECTOR)]
+    dd = ["dd", "if=/dev/zero", f"of={path}", "bs=1M", f"count={FORMAT_MIB}", "conv=fsync"]
+    by_clock, dd_by_clock, whole, least = best(
+        LONG_TURNS,
+        lambda: new(clock_time, large),
+        lambda: new(clock_time, dd) if shutil.which("dd") else float("inf"),
+        lambda: new(processor_time, large),
+        lambda: new(processor_time, small))
+    rate = size / by_clock / 1e6
+    print(f"formatting by the clock: {by_clock:.2f} s for {FORMAT_MIB} MiB, {rate:.0f} MB/s")
+    compare("dd", rate, size / dd_by_clock / 1e6)
+    rate = size / (whole - least) / 1e6
+    print(f"formatting: {whole - least:.3f} s for {FORMAT_MIB} MiB, {rate:.0f} MB/s")
+    compare("openssl ChaCha20", rate, openssl_rate("chacha20", "16384"))
+
+
+def compare(name, rate, yardstick):
+    if not yardstick:
+        print(f"  {name}: not measured")
+    else:
+        print(f"  {name} {yardstick:.0f} MB/s, ratio {rate / yardstick:.2f}")
+
+
+def gcrypt_time(cipher, mode, size):
+    """libgcrypt's seconds to decipher a stretch, by many of them; the keys are made before."""
+    library = gcrypt()
+    keys = bytes(range(64 if mode == GCRYPT_XTS else 32))
+    handle = gcrypt_handle(cipher, mode, keys)
+    data, out = bytes(size), ctypes.create_string_buffer(size)
+    count, begin, spent = 0, time.process_time(), 0
+    while spent < 0.1:
+        if mode == GCRYPT_XTS:
+            library.gcry_cipher_setiv(handle, bytes(16), 16)
+        library.gcry_cipher_decrypt(handle, out, size, data, size)
+        count += 1
+        spent = time.process_time() - begin
+    library.gcry_cipher_close(handle)
+    return spent / count
+
+
+def gcrypt_rate(algorithm, mode):
+    """libgcrypt's MB/s, one pass for each cipher; None where it is missing."""
+    if gcrypt() is None:
+        return None
+    size = 1 << 16
+    each = [lambda c=c: gcrypt_time(c, mode, size) for c in ALGORITHMS[algorithm]]
+    return size / sum(best(LONG_TURNS, *each)) / 1e6
 
 
 def deciphering(program, folder):
     path = os.path.join(folder, "pim_1.vc")
-    make(path, 2 * GROUP + (MIB << 20), PASSWORD, 1)
-    whole, none = [], []
-    for _ in range(TURNS):
-        whole.append(program_time(program, path, (MIB << 20) // SECTOR, 1, system=True))
-        none.append(program_time(program, path, 0, 1, system=True))
-    seconds = min(whole) - min(none)
-    rate = (MIB << 20) / seconds / 1e6
-    print(f"deciphering: {seconds:.3f} s for {MIB} MiB, {rate:.0f} MB/s (at least 10)")
-    return rate
+    size = CAT_MIB << 20
+    for name in ("aes", "serpent", "twofish", "aes-twofish-serpent"):
+        if not is_available(name):
+            print(f"deciphering {name}: not measured, libgcrypt is missing")
+            continue
+        make(path, 2 * GROUP + size, PASSWORD, 1, algorithm=name)
+        whole, none = best(LONG_TURNS, lambda: cat_time(program, path, size // SECTOR, 1),
+                           lambda: cat_time(program, path, 0, 1))
+        seconds = whole - none
+        rate = size / seconds / 1e6
+        print(f"deciphering {name}: {seconds:.3f} s for {CAT_MIB} MiB, "
+              f"{rate:.0f} MB/s (at least 10)")
+        compare("libgcrypt XTS", rate, gcrypt_rate(name, GCRYPT_XTS))
+        compare("libgcrypt block by block", rate, gcrypt_rate(name, GCRYPT_ECB))
+        if name == "aes":
+            for how, extra in [("with", {}), ("without", NO_AES)]:
+                yardstick = openssl_rate("aes-256-xts", "512", "-decrypt", extra=extra)
+                compare(f"openssl {how} AES instructions", rate, yardstick)
 
 
-def openssl_rate(extra):
-    """OpenSSL's MB/s of AES-256-XTS over units of 512 bytes; None where it can't be measured."""
+def openssl_rate(name, length, *more, extra={}):
+    """OpenSSL's MB/s over stretches of this length; None where it can't be measured."""
     tool = shutil.which("openssl")
     if tool is None:
         return None
-    words = [tool, "speed", "-evp", "aes-256-xts", "-decrypt", "-bytes", "512", "-seconds", "1"]
+    words = [tool, "speed", "-evp", name, *more, "-bytes", length, "-seconds", "1"]
     run = subprocess.run(words, env={**os.environ, **extra}, capture_output=True, text=True)
     # its last line: the name, and thousands of bytes a second
-    found = re.findall(r"^aes-256-xts\s+([\d.]+)k\s*$", run.stdout, re.IGNORECASE | re.MULTILINE)
+    found = re.findall(rf"^{name}\s+([\d.]+)k\s*$", run.stdout, re.IGNORECASE | re.MULTILINE)
     return float(found[-1]) / 1e3 if found else None
 
 
@@ -94,21 +217,31 @@ def processor():
         return platform.processor() or "unknown"
 
 
+def load():
+    return f"{os.getloadavg()[0]:.1f}" if hasattr(os, "getloadavg") else "unknown"
+
+
+MEASURES = {
+    "opening": opening,
+    "failing": failing,
+    "formatting": formatting,
+    "deciphering": deciphering,
+}
+
+
 def main(words):
-    program = os.path.abspath(words[0] if words else os.path.join(HERE, "..", "crates", "vcserve", "out", "vcserve"))
+    program = os.path.abspath(words[0] if words else PROGRAM)
     if not os.path.isfile(program):
         sys.exit(f"{program} is missing: `rt run` in crates/vcserve builds it")
-    load = os.getloadavg()[0] if hasattr(os, "getloadavg") else 0
-    print(f"machine: {processor()}, {os.cpu_count()} processors, load {load:.1f}, Python {platform.python_version()}")
-    with tempfile.TemporaryDirectory() as folder:
-        opening(program, folder)
-        rate = deciphering(program, folder)
-    for name, extra in [("with AES instructions", {}), ("without AES instructions", NO_AES)]:
-        yardstick = openssl_rate(extra)
-        if yardstick is None:
-            print(f"yardstick: openssl {name}: not measured")
-        else:
-            print(f"yardstick: openssl {name} {yardstick:.0f} MB/s, ratio {rate / yardstick:.2f}")
+    asked = words[1:] or list(MEASURES)
+    if not set(asked) <= set(MEASURES):
+        sys.exit(__doc__)
+    print(f"machine: {processor()}, {os.cpu_count()} processors, load {load()}, "
+          f"Python {platform.python_version()}")
+    for name in asked:
+        with tempfile.TemporaryDirectory() as folder:
+            MEASURES[name](program, folder)
+    print(f"load at the end {load()}")
 
 
 if __name__ == "__main__":
