@@ -31,15 +31,15 @@ module _ (h : Held) (e : Event) where
   more : length fs ≡ length h.events + 1
   more = length-append h.events (e ∷ [])
 
-  front : (k : ℕ) (c : List ℕ) → k ≤ length h.events → At (take k fs) c → At (take k h.events) c
-  front k c le left = subst (λ (gs : List Event). At gs c) (take-append-le k h.events (e ∷ []) le) left
+  prefix : (k : ℕ) (c : List ℕ) → k ≤ length h.events → At (take k fs) c → At (take k h.events) c
+  prefix k c le left = subst (λ (gs : List Event). At gs c) (take-append-le k h.events (e ∷ []) le) left
 
   back : (k : ℕ) (c : List ℕ) → k ≤ length h.events → At (take k h.events) c → At (take k fs) c
   back k c le left = subst (λ (gs : List Event). At gs c) (sym (take-append-le k h.events (e ∷ []) le)) left
 
   split : (t k : ℕ) (c : List ℕ) → t ≤ k → k ≤ length fs → At (take k fs) c
       → (k < length h.events + 1) ⊎ (length h.events + 1 ≤ k) → Since h t c ⊎ At fs c
-  split t k c from to left (inl lt) = inl (k, from, omega arith, front k c (omega arith) left)
+  split t k c from to left (inl lt) = inl (k, from, omega arith, prefix k c (omega arith) left)
   split t k c from to left (inr past) = inr (subst (λ (gs : List Event). At gs c) (take_all k fs (omega (arith, more))) left)
 
   came_from : (step : List ℕ → List ℕ → Type 0) → step (shown h) (after e (shown h))

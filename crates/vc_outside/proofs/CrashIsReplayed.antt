@@ -5,7 +5,7 @@ use Rattle.vc_outside.specs.Record.{Event, after, read_after, picked, crashed}
 use Rattle.vc_outside.specs.Laws.Invariant.{Fits, IsRecord}
 use Rattle.vc_outside.specs.Laws.Log.{event_of, events_of}
 use Rattle.vc_outside.specs.declared.record.Call.{Call}
-use Rattle.vc_outside.proofs.Events.{IsAsLong, read_after-push, crashed-push, crashed-long, IsRecord-front, IsRecord-last}
+use Rattle.vc_outside.proofs.Events.{IsAsLong, read_after-push, crashed-push, crashed-long, IsRecord-prefix, IsRecord-last}
 
 pub record SoFar (p i : ℕ) (es : List Event) (b read image : List ℕ) : Type 0 where
   pub read_is : read ≡ read_after (take i es) b
@@ -31,11 +31,11 @@ module _ (p i : ℕ) (bytes : List ℕ) (calls : List Call) (call : Call) (b rea
   more : take (i + 1) es ≡ take i es ++ e ∷ []
   more = take_more es i e within ∙ ap (λ (f : Event). take i es ++ f ∷ []) (get_or-map (event_of bytes) calls i call e lt)
 
-  front : IsRecord es b → IsRecord (take (i + 1) es) b
-  front sound = IsRecord-front (take (i + 1) es) (drop (i + 1) es) b (subst (λ (fs : List Event). IsRecord fs b) (sym (take-append-drop (i + 1) es)) sound)
+  prefix : IsRecord es b → IsRecord (take (i + 1) es) b
+  prefix sound = IsRecord-prefix (take (i + 1) es) (drop (i + 1) es) b (subst (λ (fs : List Event). IsRecord fs b) (sym (take-append-drop (i + 1) es)) sound)
 
   both : IsRecord es b → IsRecord (take i es ++ e ∷ []) b
-  both sound = subst (λ (fs : List Event). IsRecord fs b) more (front sound)
+  both sound = subst (λ (fs : List Event). IsRecord fs b) more (prefix sound)
 
   pub fits : IsRecord es b → Fits e read
   fits sound = subst (Fits e) (sym so.read_is) (IsRecord-last (take i es) e b (both sound))
@@ -52,7 +52,7 @@ module _ (p i : ℕ) (bytes : List ℕ) (calls : List Call) (call : Call) (b rea
   positive (suc q) c d lt even = even
 
   pub long : IsRecord es b → 0 < p → length image ≡ length read
-  long sound above = ap length so.image_is ∙ positive p (read_after (take i es) b) (crashed p (take i es) b b) above (aligned p (as_long p) refl (IsRecord-front (take i es) (e ∷ []) b (both sound))) ∙ ap length (sym so.read_is)
+  long sound above = ap length so.image_is ∙ positive p (read_after (take i es) b) (crashed p (take i es) b b) above (aligned p (as_long p) refl (IsRecord-prefix (take i es) (e ∷ []) b (both sound))) ∙ ap length (sym so.read_is)
 
   pub goes_on : (read' image' : List ℕ) → read' ≡ after e read → image' ≡ picked p e read image → SoFar p (i + 1) es b read' image'
   goes_on read' image' is left = record {

@@ -82,10 +82,10 @@ unfolding read_after IsRecord crashed
 crashed-long p [] b c sound long = long
 crashed-long p (e ∷ es) b c sound long = crashed-long p es (after e b) (picked p e b c) sound.1 (picked-long p e b c sound.0 long)
 
-pub IsRecord-front : (es fs : List Event) (b : List ℕ) → IsRecord (es ++ fs) b → IsRecord es b
+pub IsRecord-prefix : (es fs : List Event) (b : List ℕ) → IsRecord (es ++ fs) b → IsRecord es b
 unfolding IsRecord
-IsRecord-front [] fs b sound = tt
-IsRecord-front (e ∷ es) fs b sound = (sound.0, IsRecord-front es fs (after e b) sound.1)
+IsRecord-prefix [] fs b sound = tt
+IsRecord-prefix (e ∷ es) fs b sound = (sound.0, IsRecord-prefix es fs (after e b) sound.1)
 
 pub IsRecord-last : (es : List Event) (e : Event) (b : List ℕ) → IsRecord (es ++ e ∷ []) b → Fits e (read_after es b)
 unfolding IsRecord read_after

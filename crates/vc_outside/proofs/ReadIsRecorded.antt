@@ -21,9 +21,9 @@ held-next first bytes bytes' es es' e held fits is more = record {
   sound = subst (λ (fs : List Event). IsRecord fs first) (sym more) (IsRecord-push es e first held.sound (subst (Fits e) held.shows fits));
 }
 
-module _ (k at : ℕ) (xs b : List ℕ) (within : at + length xs ≤ length b) (front : k ≤ length xs) where
+module _ (k at : ℕ) (xs b : List ℕ) (within : at + length xs ≤ length b) (prefix : k ≤ length xs) where
   kept : length (take k xs) ≡ k
-  kept = length-take-le k xs front
+  kept = length-take-le k xs prefix
 
   outside : SameOutside at (length xs) b (written at (take k xs) b)
   outside = outside-wider at (length (take k xs)) (length xs) b (written at (take k xs) b) (omega (arith, kept)) (written-outside at (take k xs) b (omega (arith, kept)))
