@@ -1,4 +1,4 @@
--- exclusive or as the sum of polynomials
+-- XOR as the sum of polynomials
 pub mod Xor
 -- the remainder of a polynomial is the one that division leaves
 pub mod Remainders

@@ -1,9 +1,9 @@
 use Rattle.std.proofs.Common.{◌+◌, length, refl, sym, arith, zero-add}
 use Rattle.kdf_hmac.specs.Hmac.{output_length}
-use Rattle.kdf_hmac.specs.Progress.{block}
+use Rattle.kdf_hmac.specs.Laws.Progress.{block}
 use Rattle.kdf_hmac.proofs.Blocks.{count_is, start_inside, filled_none, filled_as, all_bytes}
-use Rattle.kdf_hmac.proofs.Turns.{turned_none, turned_at}
-use Rattle.kdf_hmac.proofs.derive.fill.Goals as goal
+use Rattle.kdf_hmac.proofs.Steps.{stepped_none, stepped_at}
+use Rattle.kdf_hmac.proofs.pbkdf2_keys.fill.Goals as goal
 
 pub pieces-init : goal.pieces-init
 pieces-init g c =
@@ -26,11 +26,11 @@ pieces-preserved g c =
     let l = length c.args.out.now in
     let k = length c.pieces.out in
     let same = c.pieces.auto.out in
-    let none = turned_none prf p s (c.pieces.i + 1) c.new.result.code c.new.result.sum in
+    let none = stepped_none prf p s (c.pieces.i + 1) c.new.result.mac c.new.result.sum in
     let block = c.block_after-block.result in
-    let turned = c.block_after-block.ensures p c.new-key.ensures none in
-    let last = turned_at prf p s (c.pieces.i + 1) block.code block.sum (0 + c.args.iterations) c.args.iterations
-    (zero-add c.args.iterations) turned in
+    let stepped = c.block_after-block.ensures p c.new-key.ensures none in
+    let last = stepped_at prf p s (c.pieces.i + 1) block.mac block.sum (0 + c.args.iterations) c.args.iterations
+    (zero-add c.args.iterations) stepped in
     filled_as f n n k l c.put_block.new.out (c.pieces.i + 1) refl same
     (c.put_block.ensures p s c.args.iterations last.sum_is
     (filled_as f n n l k c.pieces.out c.pieces.i refl (sym same) c.pieces.invariant))

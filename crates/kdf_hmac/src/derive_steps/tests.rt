@@ -75,20 +75,20 @@ struct Row {
     prf: Prf,
     iterations: u32,
     // of each step
-    turns: u32,
+    steps: u32,
     // after each step
     left: &'static [u64],
     keys: &'static [u8; 192],
 }
 
 #[test]
-fn turns_may_be_cut_anywhere(rt: HostRuntime) {
+fn steps_may_be_cut_anywhere(rt: HostRuntime) {
     let rows = [
         Row {
             case: "one by one",
             prf: Prf::Sha512,
             iterations: 3,
-            turns: 1,
+            steps: 1,
             left: &[8, 7, 6, 5, 4, 3, 2, 1, 0],
             keys: &KEYS_512_3,
         },
@@ -96,7 +96,7 @@ fn turns_may_be_cut_anywhere(rt: HostRuntime) {
             case: "one by one",
             prf: Prf::Sha256,
             iterations: 3,
-            turns: 1,
+            steps: 1,
             left: &[17, 16, 15, 14, 13, 12, 11, 10, 9, 8, 7, 6, 5, 4, 3, 2, 1, 0],
             keys: &KEYS_256_3,
         },
@@ -104,7 +104,7 @@ fn turns_may_be_cut_anywhere(rt: HostRuntime) {
             case: "four by four, over the ends of blocks",
             prf: Prf::Sha512,
             iterations: 3,
-            turns: 4,
+            steps: 4,
             left: &[5, 1, 0],
             keys: &KEYS_512_3,
         },
@@ -112,7 +112,7 @@ fn turns_may_be_cut_anywhere(rt: HostRuntime) {
             case: "all at once",
             prf: Prf::Sha256,
             iterations: 3,
-            turns: 18,
+            steps: 18,
             left: &[0],
             keys: &KEYS_256_3,
         },
@@ -120,7 +120,7 @@ fn turns_may_be_cut_anywhere(rt: HostRuntime) {
             case: "more than there are, and then again",
             prf: Prf::Sha512,
             iterations: 3,
-            turns: 0xffff_ffff,
+            steps: 0xffff_ffff,
             left: &[0, 0],
             keys: &KEYS_512_3,
         },
@@ -128,7 +128,7 @@ fn turns_may_be_cut_anywhere(rt: HostRuntime) {
             case: "1,024 by 1,024",
             prf: Prf::Sha512,
             iterations: 700,
-            turns: 1024,
+            steps: 1024,
             left: &[1076, 52, 0],
             keys: &KEYS_512_700,
         },
@@ -136,7 +136,7 @@ fn turns_may_be_cut_anywhere(rt: HostRuntime) {
             case: "1,024 by 1,024",
             prf: Prf::Sha256,
             iterations: 700,
-            turns: 1024,
+            steps: 1024,
             left: &[3176, 2152, 1128, 104, 0],
             keys: &KEYS_256_700,
         },
@@ -150,7 +150,7 @@ fn turns_may_be_cut_anywhere(rt: HostRuntime) {
         let mut derive = Derive::new(row.prf, &password, &SALT, row.iterations);
         assert!(rt; !derive.advance(0), "{}", row.case);
         for left in row.left {
-            let done = derive.advance(row.turns);
+            let done = derive.advance(row.steps);
             assert_eq!(rt; derive.remaining(), *left, "{}", row.case);
             assert_eq!(rt; done, *left == 0, "{}", row.case);
         }

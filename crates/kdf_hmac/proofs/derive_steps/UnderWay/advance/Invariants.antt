@@ -1,5 +1,5 @@
 use Rattle.std.proofs.Common.{◌≡◌, ◌≤◌, ◌-◌}
-use Rattle.kdf_hmac.proofs.by_turns.UnderWay.advance.Given as goal
+use Rattle.kdf_hmac.proofs.derive_steps.UnderWay.advance.Given as goal
 
 abbrev pub invariant-steps : goal.invariant-steps
 invariant-steps g l =

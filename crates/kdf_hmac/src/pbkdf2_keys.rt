@@ -1,16 +1,18 @@
 //! PBKDF2 (RFC 8018, section 5.2), and the counts of its iterations.
 ghost use Rattle.std.specs.Prelude.{◌≡◌, ◌≤◌, ◌^◌, List, ℕ, length};
-ghost use Rattle.kdf_hmac.specs.Pbkdf2.{iterations_of, pbkdf2_bytes};
+ghost use Rattle.kdf_hmac.specs.Pbkdf2.{IsPim, iterations_of, pbkdf2_bytes};
 
 use crate::block::{Block, block_after, put_block};
 use crate::keyed::Keyed;
 use crate::prf::{Hasher, Prf};
 use sha2::{Sha256, Sha512};
 
-/// The count of iterations that a PIM sets. PIM 0 stands for none, and 2147468 is the greatest whose
-/// count is below 2^31.
+/// The greatest PIM: the last one whose count of iterations is below 2^31.
+pub const GREATEST_PIM: u32 = 2_147_468;
+
+/// The count of iterations that a PIM sets, a number up to `GREATEST_PIM`. A PIM of 0 means none.
 pub fn iterations(pim: u32) -> u32
-    requires { pim ≤ 2147468 }
+    requires { IsPim pim }
     ensures { result ≡ iterations_of pim }
 {
     if pim == 0 {

@@ -1,6 +1,6 @@
--- The list U_1, U_2, .. of a block, turn by turn, and the exclusive or of its first ones.
+-- The list U_1, U_2, .. of a block, step by step, and the XOR of its first ones.
 --
--- T over one more turn is T over the turns before it, with that turn's U. The code keeps each U and the sum
+-- T over one more step is T over the steps before it, with that step's U. The MAC is each U and the sum
 -- in a field of 64 bytes, and only the first bytes of a field count.
 use Rattle.std.proofs.Common.{◌≡◌, ◌≤◌, ℕ, zero, suc, ◌+◌, List, length, take, map, replicate}
 use Rattle.std.proofs.Common.{refl, sym, ap, ap₂, ◌∙◌, subst, arith, add-one}
@@ -12,12 +12,12 @@ use Rattle.vc_base.specs.Bytes.{xor_bytes}
 use Rattle.kdf_hmac.specs.declared.prf.Prf.{Prf}
 use Rattle.kdf_hmac.specs.Hmac.{hmac_of, output_length, padded}
 use Rattle.kdf_hmac.specs.Pbkdf2.{u, t}
-use Rattle.kdf_hmac.specs.Progress.{Turned}
+use Rattle.kdf_hmac.specs.Laws.Progress.{Stepped}
 use Rattle.kdf_hmac.proofs.Keys.{length-hmac_of, take-padded}
 use Rattle.kdf_hmac.proofs.Xors.{length-xor_bytes, take-xor_bytes, xor_bytes-zeros}
 
 module _ (prf : Prf) (p s : List ℕ) (i : ℕ) where
-  -- ---- lengths, and one more turn
+  -- ---- lengths, and one more step
 
   pub length-u : (j : ℕ) → length (u prf p s i (suc j)) ≡ output_length prf
   unfolding u
@@ -57,32 +57,32 @@ module _ (prf : Prf) (p s : List ℕ) (i : ℕ) where
 
   -- ---- as the code has them
 
-  -- nothing is said before the first turn
-  pub turned_none : (code sum : List ℕ) → 1 ≤ 0 → Turned prf p s i code sum 0
-  turned_none code sum some = absurd (omega (arith, some))
+  -- nothing is said before the first step
+  pub stepped_none : (mac sum : List ℕ) → 1 ≤ 0 → Stepped prf p s i mac sum 0
+  stepped_none mac sum some = absurd (omega (arith, some))
 
-  pub turned_one : (code : List ℕ) → code ≡ padded prf (hmac_of prf p (u prf p s i 0)) → Turned prf p s i code code 1
-  turned_one code is =
-      let first : take (output_length prf) code ≡ u prf p s i 1
+  pub stepped_one : (mac : List ℕ) → mac ≡ padded prf (hmac_of prf p (u prf p s i 0)) → Stepped prf p s i mac mac 1
+  stepped_one mac is =
+      let first : take (output_length prf) mac ≡ u prf p s i 1
       = ap (take (output_length prf)) is
       ∙ take-padded prf _ (length-hmac_of prf p (u prf p s i 0))
       ∙ sym (u_more 0) in
-      record { code_is = first; sum_is = first ∙ sym t_one }
+      record { mac_is = first; sum_is = first ∙ sym t_one }
 
-  pub turned_more : (code sum next both : List ℕ) (j : ℕ) → Turned prf p s i code sum j
-      → next ≡ padded prf (hmac_of prf p (take (output_length prf) code)) → both ≡ xor_bytes sum next
-      → Turned prf p s i next both (j + 1)
-  turned_more code sum next both j before next_is both_is =
+  pub stepped_more : (mac sum next both : List ℕ) (j : ℕ) → Stepped prf p s i mac sum j
+      → next ≡ padded prf (hmac_of prf p (take (output_length prf) mac)) → both ≡ xor_bytes sum next
+      → Stepped prf p s i next both (j + 1)
+  stepped_more mac sum next both j before next_is both_is =
       let n = output_length prf in
       let last : take n next ≡ u prf p s i (j + 1)
-      = ap (take n) next_is ∙ take-padded prf _ (length-hmac_of prf p (take n code))
-      ∙ ap (hmac_of prf p) before.code_is ∙ sym (u_more j) in
+      = ap (take n) next_is ∙ take-padded prf _ (length-hmac_of prf p (take n mac))
+      ∙ ap (hmac_of prf p) before.mac_is ∙ sym (u_more j) in
       record {
-        code_is = last;
+        mac_is = last;
         sum_is =
             ap (take n) both_is ∙ take-xor_bytes n sum next ∙ ap₂ xor_bytes before.sum_is last ∙ sym (t_more j);
       }
 
-  -- the count of turns, written otherwise
-  pub turned_at : (code sum : List ℕ) (j k : ℕ) → j ≡ k → Turned prf p s i code sum j → Turned prf p s i code sum k
-  turned_at code sum j k e = subst (λ (m : ℕ). Turned prf p s i code sum m) e
+  -- the count of steps, written otherwise
+  pub stepped_at : (mac sum : List ℕ) (j k : ℕ) → j ≡ k → Stepped prf p s i mac sum j → Stepped prf p s i mac sum k
+  stepped_at mac sum j k e = subst (λ (m : ℕ). Stepped prf p s i mac sum m) e

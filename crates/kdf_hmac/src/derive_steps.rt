@@ -1,10 +1,10 @@
-//! A derivation that goes by turns, so that its caller can stop between them.
+//! A derivation that goes by steps, so that its caller can stop between them.
 //!
 //! The blocks T_1, T_2, .. are worked on one after the other. At any time the first ones are finished, the
-//! next is at work, and the rest is not begun:
+//! next is at work, and the rest has not been started:
 //!
 //! ```text
-//! | T_1 .. T_finished | T_(finished + 1), after `turns` of its turns | ..
+//! | T_1 .. T_finished | T_(finished + 1), after `steps` of its steps | ..
 //!   in `out`            in `block`
 //! ```
 ghost use Rattle.std.specs.Prelude.{◌≡◌, ◌≤◌, ◌-◌, ◌*◌, ◌↔◌, min, IsTrue};
@@ -17,8 +17,8 @@ use crate::prf::{Hasher, Prf};
 use sha2::{Sha256, Sha512};
 use std::marker::Model;
 
-/// A derivation of 192 bytes that goes by turns. A turn is one HMAC of one output block, so 192 bytes take 3
-/// (SHA-512) or 6 (SHA-256) times as many turns as iterations. Contracts see a `Derivation` of specs/.
+/// A derivation of 192 bytes that goes by steps. A step is one HMAC of one output block, so 192 bytes take 3
+/// (SHA-512) or 6 (SHA-256) times as many steps as iterations. Contracts see a `Derivation` of specs/.
 #[derive(Drop)]
 pub struct Derive {
     work: Work,
@@ -35,13 +35,13 @@ impl Model for Derive {
 
     ghost Value = { Derivation };
 
-    ghost use Rattle.kdf_hmac.specs.Works.{derivation_of};
+    ghost use Rattle.kdf_hmac.specs.Laws.Works.{derivation_of};
 
     ghost view = { λ d. derivation_of d.work };
 }
 
 impl Derive {
-    /// A derivation before its first turn.
+    /// A derivation before its first step.
     pub fn new(prf: Prf, password: &Password, salt: &[u8; 64], iterations: u32) -> Derive
         requires { 1 ≤ iterations }
         ensures { result ≡ record {
@@ -59,7 +59,7 @@ impl Derive {
         Derive { work }
     }
 
-    /// How many turns are left.
+    /// How many steps are left.
     pub fn remaining(&self) -> u64
         ensures { result ≡ self.now.left }
     {
@@ -69,14 +69,14 @@ impl Derive {
         }
     }
 
-    /// Takes this many turns, or all that are left where they are fewer, and answers whether none is left.
-    pub fn advance(&mut self, turns: u32) -> bool
-        ensures taken { self.new ≡ record self.old { left = self.old.left - min turns self.old.left } }
+    /// Takes this many steps, or all that are left if they are fewer, and returns whether none is left.
+    pub fn advance(&mut self, steps: u32) -> bool
+        ensures taken { self.new ≡ record self.old { left = self.old.left - min steps self.old.left } }
         ensures none_left { IsTrue result ↔ (self.new.left ≡ 0) }
     {
         match &mut self.work {
-            Work::Sha512(work) => work.advance(turns),
-            Work::Sha256(work) => work.advance(turns),
+            Work::Sha512(work) => work.advance(steps),
+            Work::Sha256(work) => work.advance(steps),
         }
     }
 
@@ -96,19 +96,19 @@ impl Derive {
 #[derive(Drop)]
 struct UnderWay<H: Hasher> {
     key: Keyed<H>,
-    // contracts name it: the turns use the key
+    // contracts name it: the steps use the key
     password: Password,
     salt: [u8; 64],
     iterations: u32,
     finished: u32,
-    turns: u32,
+    steps: u32,
     block: Block,
     out: [u8; 192],
 }
 
 impl<H: Hasher> Model for UnderWay<H> {
     ghost use Rattle.kdf_hmac.specs.Derivation.{Derivation};
-    ghost use Rattle.kdf_hmac.specs.Progress.{IsUnderWay, turns_left};
+    ghost use Rattle.kdf_hmac.specs.Laws.Progress.{IsUnderWay, steps_left};
 
     ghost Value = { Derivation };
 
@@ -117,11 +117,11 @@ impl<H: Hasher> Model for UnderWay<H> {
       password = a.password;
       salt = a.salt;
       iterations = a.iterations;
-      left = turns_left H.prf a.iterations a.finished a.turns;
+      left = steps_left H.prf a.iterations a.finished a.steps;
     } };
 
     ghost invariant = { λ a. IsUnderWay H.holds H.prf a.key.inner a.key.outer a.password a.salt
-        a.iterations a.finished a.turns a.block.code a.block.sum a.out };
+        a.iterations a.finished a.steps a.block.mac a.block.sum a.out };
 }
 
 impl<H: Hasher> UnderWay<H> {
@@ -141,7 +141,7 @@ impl<H: Hasher> UnderWay<H> {
             salt: *salt,
             iterations,
             finished: 0,
-            turns: 0,
+            steps: 0,
             block: Block::new(),
             out: [0; 192],
         }
@@ -151,21 +151,21 @@ impl<H: Hasher> UnderWay<H> {
         ensures { result ≡ self.now.left }
     {
         let blocks = blocks_of_192::<H>() - self.finished;
-        u64::from(blocks) * u64::from(self.iterations) - u64::from(self.turns)
+        u64::from(blocks) * u64::from(self.iterations) - u64::from(self.steps)
     }
 
-    fn advance(&mut self, turns: u32) -> bool
-        ensures taken { self.new ≡ record self.old { left = self.old.left - min turns self.old.left } }
+    fn advance(&mut self, steps: u32) -> bool
+        ensures taken { self.new ≡ record self.old { left = self.old.left - min steps self.old.left } }
         ensures none_left { IsTrue result ↔ (self.new.left ≡ 0) }
     {
-        let mut wanted = u64::from(turns).min(self.remaining()) as u32;
+        let mut wanted = u64::from(steps).min(self.remaining()) as u32;
         'steps: while wanted > 0 {
             wanted -= self.step(wanted);
         }
         self.remaining() == 0
     }
 
-    // Takes some turns of the block at work, and answers how many.
+    // Takes some steps of the block at work, and returns how many.
     fn step(&mut self, most: u32) -> u32
         requires some { 1 ≤ most }
         requires left { most ≤ self.old.left }
@@ -173,16 +173,16 @@ impl<H: Hasher> UnderWay<H> {
         ensures most { result ≤ most }
         ensures taken { self.new ≡ record self.old { left = self.old.left - result } }
     {
-        let count = most.min(self.iterations - self.turns);
+        let count = most.min(self.iterations - self.steps);
         let number = self.finished + 1;
-        let block = block_after(&self.key, &self.salt, number, self.block, self.turns, count);
-        if self.turns + count == self.iterations {
+        let block = block_after(&self.key, &self.salt, number, self.block, self.steps, count);
+        if self.steps + count == self.iterations {
             put_block::<H>(&mut self.out, self.finished as usize, &block.sum);
             self.finished += 1;
-            self.turns = 0;
+            self.steps = 0;
         } else {
             self.block = block;
-            self.turns += count;
+            self.steps += count;
         }
         count
     }

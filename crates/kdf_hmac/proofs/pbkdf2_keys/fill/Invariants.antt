@@ -1,7 +1,7 @@
 use Rattle.std.proofs.Common.{length}
 use Rattle.kdf_hmac.specs.Hmac.{output_length}
-use Rattle.kdf_hmac.specs.Progress.{Filled, block}
-use Rattle.kdf_hmac.proofs.derive.fill.Given as goal
+use Rattle.kdf_hmac.specs.Laws.Progress.{Filled, block}
+use Rattle.kdf_hmac.proofs.pbkdf2_keys.fill.Given as goal
 
 abbrev pub invariant-pieces : goal.invariant-pieces
 invariant-pieces g l =
