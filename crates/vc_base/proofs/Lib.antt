@@ -12,3 +12,9 @@ pub mod Bytes
 pub mod LongRemainders
 -- integers of 32 and 64 bits and their bytes
 pub mod Words
+-- two functions that agree at each number below a limit, by computing
+pub mod EachNumber
+-- numbers by their bits, and by a test
+pub mod Bits
+-- a list in the chunks that the code takes
+pub mod Chunks
