@@ -3,7 +3,6 @@
 -- A candidate is a slot with a PRF and an algorithm. It is valid in a container where the slot's body,
 -- deciphered under the keys that the PRF derives from password, PIM and the slot's salt, is valid.
 --
--- slots_of kind                     the slots of a kind, in order
 -- candidates kind                   the candidates of a kind, by slot, then PRF, then algorithm
 -- header_at slot image              the 512 bytes in a slot
 -- plain_body c image p pim          the deciphered body of a candidate
@@ -15,30 +14,22 @@ use Rattle.std.specs.List.{flat_map}
 use Rattle.kdf_hmac.specs.declared.prf.Prf.{Prf}
 use Rattle.kdf_hmac.specs.Prfs.{all_prfs}
 use Rattle.kdf_hmac.specs.Pbkdf2.{derived}
-use Rattle.cascade_set.specs.declared.algorithm.Algorithm.{Algorithm}
-use Rattle.cascade_set.specs.Algorithms.{all_algorithms}
+use Rattle.algorithm_names.specs.declared.algorithm.Algorithm.{Algorithm}
+use Rattle.algorithm_names.specs.Algorithms.{all_algorithms}
 use Rattle.cascade_set.specs.Cascade.{deciphered}
 use Rattle.vc_layout.specs.Layout.{place_of}
 use Rattle.vc_layout.specs.declared.slots.Slot.{Slot}
 use Rattle.vc_layout.specs.declared.slots.Slot.TheVariants.{Standard, Hidden, BackupStandard, BackupHidden}
 use Rattle.vc_header.specs.Header.{fields_of, is_valid}
 use Rattle.vc_header.specs.declared.fields.Fields.{Fields}
-use Rattle.header_try.specs.declared.kind.Kind.{Kind}
+use Rattle.vc_layout.specs.declared.kind.Kind.{Kind}
+use Rattle.vc_layout.specs.Kinds.{slots_of}
 use Rattle.header_try.specs.declared.kind.Opened.{Opened}
-use Rattle.header_try.specs.declared.kind.Kind.TheVariants.{Any, StandardOnly, HiddenOnly, AnyBackup, StandardBackup, HiddenBackup}
 
 pub record Candidate : Type 0 where
   pub slot : Slot
   pub prf : Prf
   pub algorithm : Algorithm
-
-abbrev pub slots_of : Kind → List Slot
-slots_of Any = Standard ∷ Hidden ∷ []
-slots_of StandardOnly = Standard ∷ []
-slots_of HiddenOnly = Hidden ∷ []
-slots_of AnyBackup = BackupStandard ∷ BackupHidden ∷ []
-slots_of StandardBackup = BackupStandard ∷ []
-slots_of HiddenBackup = BackupHidden ∷ []
 
 -- So far one slot is built.
 abbrev pub is_built_slot : Slot → Bool

@@ -4,19 +4,6 @@ use kdf_hmac::Prf;
 use vc_header::Fields;
 use vc_layout::Slot;
 
-/// Which slots are tried.
-#[derive(Clone, Copy, Debug, PartialEq, Eq)]
-pub enum Kind {
-    /// The standard slot, then the hidden one.
-    Any,
-    StandardOnly,
-    HiddenOnly,
-    /// The standard backup slot, then the hidden one.
-    AnyBackup,
-    StandardBackup,
-    HiddenBackup,
-}
-
 /// An opened header: the candidate that is valid, and its fields.
 #[derive(Clone, Copy)]
 pub struct Opened {

@@ -8,9 +8,10 @@
 //! `docs/FORMAT.md`, "Opening", has the order of the candidates.
 #![tactic(auto)]
 
-pub use kind::{Kind, OpenError, Opened};
+pub use kind::{OpenError, Opened};
 pub use open::open_plain;
 pub use slot::try_slot;
+pub use vc_layout::Kind;
 
 pub mod kind;
 pub mod open;

@@ -7,13 +7,14 @@ ghost use Rattle.vc_layout.specs.declared.slots.Slot.TheVariants.{Standard};
 ghost use Rattle.kdf_hmac.specs.Prfs.{all_prfs};
 ghost use Rattle.kdf_hmac.specs.Pbkdf2.{derived};
 ghost use Rattle.vc_header.specs.Header.{fields_of, Meets};
-ghost use Rattle.header_try.specs.Candidates.{candidate_of, candidates, candidates_of, first, IsFirst, is_valid_under, plain_by, slots_of};
+ghost use Rattle.header_try.specs.Candidates.{candidate_of, candidates, candidates_of, first, IsFirst, is_valid_under, plain_by};
+ghost use Rattle.vc_layout.specs.Kinds.{slots_of};
 
-use crate::kind::{Kind, OpenError, Opened};
+use crate::kind::{OpenError, Opened};
 use crate::slot::try_slot;
 use kdf_hmac::{Password, Prf, iterations, pbkdf2};
 use vc_header::{HEADER, SALT};
-use vc_layout::{Slot, is_container_length, slot_at};
+use vc_layout::{Kind, Slot, is_container_length, slot_at};
 use vc_outside::Store;
 
 /// Opens the first valid candidate of a kind.

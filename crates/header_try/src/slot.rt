@@ -1,7 +1,7 @@
 //! One slot's header under derived keys.
 ghost use Rattle.std.specs.Prelude.{◌≡◌, ◌≤◌, ◌↔◌, ◌<◌, IsSome, IfSome, IsTrue, IsNone, Option, None, find, option_map, take};
-ghost use Rattle.cascade_set.specs.declared.algorithm.Algorithm.{Algorithm};
-ghost use Rattle.cascade_set.specs.Algorithms.{all_algorithms};
+ghost use Rattle.algorithm_names.specs.declared.algorithm.Algorithm.{Algorithm};
+ghost use Rattle.algorithm_names.specs.Algorithms.{all_algorithms};
 ghost use Rattle.vc_header.specs.Header.{fields_of, is_valid, Valid};
 ghost use Rattle.header_try.specs.Candidates.{plain_under};
 

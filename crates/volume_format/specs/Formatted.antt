@@ -9,7 +9,7 @@
 --                               to the body that is written for the fields f
 use Rattle.std.specs.Prelude.{◌≡◌, ℕ, ◌+◌, ◌-◌, ◌*◌, List, ◌++◌, length, replicate}
 use Rattle.kdf_hmac.specs.Pbkdf2.{derived}
-use Rattle.cascade_set.specs.Algorithms.{ciphers_of}
+use Rattle.algorithm_names.specs.Algorithms.{ciphers_of}
 use Rattle.cascade_set.specs.Cascade.{enciphered}
 use Rattle.vc_layout.specs.Layout.{place_of}
 use Rattle.vc_layout.specs.declared.slots.Slot.{Slot}

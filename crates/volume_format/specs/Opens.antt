@@ -11,12 +11,12 @@
 use Rattle.std.specs.Prelude.{◌≡◌, ◌<◌, ◌⊎◌, ℕ, ◌+◌, ◌*◌, List, length, Some}
 use Rattle.kdf_hmac.specs.declared.prf.Prf.{Prf}
 use Rattle.kdf_hmac.specs.declared.prf.Prf.TheVariants.{Sha512, Sha256}
-use Rattle.cascade_set.specs.Algorithms.{number_of}
+use Rattle.algorithm_names.specs.Algorithms.{number_of}
 use Rattle.vc_layout.specs.declared.slots.Slot.{Slot}
 use Rattle.vc_layout.specs.declared.slots.Slot.TheVariants.{Standard, BackupStandard}
 use Rattle.vc_header.specs.Header.{Valid}
 use Rattle.vc_header.specs.declared.fields.Fields.{Fields}
-use Rattle.header_try.specs.declared.kind.Kind.TheVariants.{StandardOnly}
+use Rattle.vc_layout.specs.declared.kind.Kind.TheVariants.{StandardOnly}
 use Rattle.header_try.specs.Candidates.{Candidate, fields_in, first, header_at, plain_by}
 use Rattle.rand_chacha.specs.ChaCha.{ChaCha}
 use Rattle.volume_format.specs.Formatted.{Carries, formatted, material_of, outer_fields}

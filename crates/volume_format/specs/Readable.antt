@@ -2,7 +2,7 @@
 use Rattle.std.specs.Prelude.{◌≡◌, ℕ, List, length, true}
 use Rattle.kdf_hmac.specs.Pbkdf2.{derived}
 use Rattle.cascade_set.specs.Cascade.{deciphered}
-use Rattle.cascade_set.specs.declared.algorithm.Keys.{Keys}
+use Rattle.cascade_set.specs.declared.keys.Keys.{Keys}
 use Rattle.vc_layout.specs.declared.slots.Slot.{Slot}
 use Rattle.vc_header.specs.Header.{body_of, fields_of, is_valid, Meets, Valid}
 use Rattle.vc_header.specs.declared.fields.Fields.{Fields}
