@@ -12,7 +12,7 @@ use Rattle.algorithm_names.specs.declared.algorithm.Algorithm.TheVariants.{Aes, 
 use Rattle.vc_layout.specs.declared.slots.Slot.TheVariants.{Standard}
 use Rattle.vc_header.specs.declared.fields.Fields.{Fields}
 use Rattle.vc_layout.specs.declared.kind.Kind.TheVariants.{StandardOnly}
-use Rattle.header_try.specs.Candidates.{Candidate, candidates, fields_in, first, is_valid_in}
+use Rattle.header_seal.specs.Candidates.{Candidate, candidates, fields_in, first, is_valid_in}
 use Rattle.volume_format.specs.Opens.{asked, order_of, prf_order, Opens}
 use Rattle.volume_format.specs.declared.outer.FormatSpec.{FormatSpec}
 

@@ -3,7 +3,7 @@ ghost use Rattle.std.specs.Prelude.{◌≡◌, ◌-◌, ◌*◌, ◌%◌, ◌++�
 ghost use Rattle.algorithm_names.specs.Algorithms.{ciphers_of};
 ghost use Rattle.volume_format.specs.Stream.{advanced, stream_bytes};
 
-use cascade_set::Algorithm;
+use algorithm_names::Algorithm;
 use rand_chacha::ChaCha20Rng;
 use rand_core::utils::fill_bytes_via_u32;
 use vc_header::{MATERIAL, SALT};

@@ -1,17 +1,4 @@
-//! What is opened, and what opening answers.
-use cascade_set::Algorithm;
-use kdf_hmac::Prf;
-use vc_header::Fields;
-use vc_layout::Slot;
-
-/// An opened header: the candidate that is valid, and its fields.
-#[derive(Clone, Copy)]
-pub struct Opened {
-    pub slot: Slot,
-    pub prf: Prf,
-    pub algorithm: Algorithm,
-    pub fields: Fields,
-}
+//! Why no header was opened.
 
 /// Why no header was opened. The container's bytes are as before in every case.
 #[derive(Clone, Copy, Debug, PartialEq, Eq)]
@@ -22,6 +9,6 @@ pub enum OpenError {
     NoHeader,
     /// A read failed.
     ReadFault,
-    /// Memory ran out. Opening by one thread takes none.
+    /// Out of memory. Opening by one thread takes none.
     NoMemory,
 }
