@@ -6,11 +6,11 @@
 -- named name         the algorithm of that name, or none
 use Rattle.std.specs.Prelude.{ℕ, List, [], ◌∷◌, codes, find, Option}
 use Rattle.std.specs.Str.{bytes_eq}
-use Rattle.cascade_set.specs.declared.algorithm.Algorithm.{Algorithm}
-use Rattle.cascade_set.specs.declared.algorithm.Algorithm.TheVariants.{AesTwofish, AesTwofishSerpent, SerpentAes, SerpentTwofishAes, TwofishSerpent}
-use Rattle.cascade_set.specs.declared.algorithm.Algorithm.TheVariants as algorithm
-use Rattle.cascade_set.specs.declared.algorithm.Cipher.{Cipher}
-use Rattle.cascade_set.specs.declared.algorithm.Cipher.TheVariants.{Aes, Serpent, Twofish}
+use Rattle.algorithm_names.specs.declared.algorithm.Algorithm.{Algorithm}
+use Rattle.algorithm_names.specs.declared.algorithm.Algorithm.TheVariants.{AesTwofish, AesTwofishSerpent, SerpentAes, SerpentTwofishAes, TwofishSerpent}
+use Rattle.algorithm_names.specs.declared.algorithm.Algorithm.TheVariants as algorithm
+use Rattle.algorithm_names.specs.declared.algorithm.Cipher.{Cipher}
+use Rattle.algorithm_names.specs.declared.algorithm.Cipher.TheVariants.{Aes, Serpent, Twofish}
 
 abbrev pub all_algorithms : List Algorithm
 all_algorithms =

@@ -1,6 +1,6 @@
-//! Algorithms and their keys.
+//! The algorithms: their numbers, names and ciphers.
 ghost use Rattle.std.specs.Prelude.{◌≡◌, ◌<◌, length, Some, slice_get};
-ghost use Rattle.cascade_set.specs.Algorithms.{ciphers_of, name_of, named, number_of};
+ghost use Rattle.algorithm_names.specs.Algorithms.{ciphers_of, name_of, named, number_of};
 
 /// A block cipher with a key of 32 bytes.
 #[derive(Clone, Copy, Debug, PartialEq, Eq)]
@@ -10,21 +10,28 @@ pub enum Cipher {
     Twofish,
 }
 
-/// An algorithm, named by its ciphers with the last one of enciphering first. The numbers, 0 to 7 in this
-/// order, are the order in which opening tries them.
+/// An algorithm, named by its ciphers with the last one of enciphering first. The numbers are
+/// the order in which opening tries them.
 #[derive(Clone, Copy, Debug, PartialEq, Eq)]
 pub enum Algorithm {
-    Aes,
-    Serpent,
-    Twofish,
-    AesTwofish,
-    AesTwofishSerpent,
-    SerpentAes,
-    SerpentTwofishAes,
-    TwofishSerpent,
+    Aes = 0,
+    Serpent = 1,
+    Twofish = 2,
+    AesTwofish = 3,
+    AesTwofishSerpent = 4,
+    SerpentAes = 5,
+    SerpentTwofishAes = 6,
+    TwofishSerpent = 7,
 }
 
 impl Algorithm {
+    /// Its number, 0 to 7.
+    pub fn number(self) -> u8
+        ensures { result ≡ number_of self }
+    {
+        self as u8
+    }
+
     /// The algorithm with this number.
     pub fn at(i: u8) -> Algorithm
         requires { i < 8 }
@@ -89,7 +96,7 @@ impl Algorithm {
         }
     }
 
-    /// The algorithm of that name. None where no name equals it.
+    /// The algorithm of that name. None if no name equals it.
     #[tactic(auto, unfolding(crate::specs::Algorithms::named))]
     pub fn from_name(name: &str) -> Option<Algorithm>
         ensures { result ≡ named name.now }
@@ -109,9 +116,38 @@ impl Algorithm {
     }
 }
 
-/// An algorithm with its key material. With k ciphers only the first 64·k bytes count.
-#[derive(Clone, Copy)]
-pub struct Keys {
-    pub algorithm: Algorithm,
-    pub material: [u8; 192],
+#[cfg(test)]
+mod tests {
+    use super::*;
+
+    // by hand
+    #[test]
+    fn algorithms_have_these_numbers_names_and_ciphers(rt: HostRuntime) {
+        let rows = [
+            (0, "aes", 1),
+            (1, "serpent", 1),
+            (2, "twofish", 1),
+            (3, "aes-twofish", 2),
+            (4, "aes-twofish-serpent", 3),
+            (5, "serpent-aes", 2),
+            (6, "serpent-twofish-aes", 3),
+            (7, "twofish-serpent", 2),
+        ];
+        for (number, name, ciphers) in rows {
+            let algorithm = Algorithm::at(number);
+            assert_eq!(rt; algorithm.number(), number, "{name}");
+            assert_eq!(rt; algorithm.name(), name);
+            assert_eq!(rt; algorithm.ciphers(), ciphers, "{name}");
+            assert_eq!(rt; Algorithm::from_name(name), Some(algorithm));
+        }
+    }
+
+    #[test]
+    fn the_last_cipher_of_enciphering_names_the_algorithm_first(rt: HostRuntime) {
+        let algorithm = Algorithm::SerpentTwofishAes;
+        assert_eq!(rt; algorithm.layer(0), Cipher::Aes);
+        assert_eq!(rt; algorithm.layer(1), Cipher::Twofish);
+        assert_eq!(rt; algorithm.layer(2), Cipher::Serpent);
+        assert!(rt; Algorithm::from_name("camellia").is_none());
+    }
 }
