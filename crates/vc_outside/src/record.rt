@@ -7,8 +7,9 @@
 //! bytes   a b c               d e          ..          the bytes of the writes, one after the other
 //! ```
 ghost use Rattle.std.specs.Prelude.{◌≡◌, ◌<◌, ◌≤◌, ◌-◌, [], length, IfOk, OnOk, vec_capacity, vec_len};
-ghost use Rattle.vc_outside.specs.Kept.{added, event_of, events_of, has_place, EndsBy, IsKept, Log};
-ghost use Rattle.vc_outside.specs.Record.{crashed, IsRecord, Lost, Resized, Synced, Wrote};
+ghost use Rattle.vc_outside.specs.Laws.Log.{added, event_of, events_of, has_place, EndsBy, IsKept, Log};
+ghost use Rattle.vc_outside.specs.Record.{crashed, Lost, Resized, Synced, Wrote};
+ghost use Rattle.vc_outside.specs.Laws.Invariant.{IsRecord};
 
 use crate::replay::replay;
 use std::alloc::{AllocError, Global};

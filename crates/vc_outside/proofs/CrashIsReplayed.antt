@@ -1,8 +1,9 @@
 -- A record that is replayed call by call.
 use Rattle.std.proofs.Common.{◌≡◌, ℕ, zero, suc, ◌+◌, ◌≤◌, ◌<◌, List, [], ◌∷◌, ◌++◌, length, take, drop, get_or, refl, sym, ◌∙◌, ap, subst, arith}
 use Rattle.std.proofs.lemmas.List.{take_all, take_more, take-append-drop, get_or-map, length-map}
-use Rattle.vc_outside.specs.Record.{Event, after, read_after, Fits, IsRecord, picked, crashed}
-use Rattle.vc_outside.specs.Kept.{event_of, events_of}
+use Rattle.vc_outside.specs.Record.{Event, after, read_after, picked, crashed}
+use Rattle.vc_outside.specs.Laws.Invariant.{Fits, IsRecord}
+use Rattle.vc_outside.specs.Laws.Log.{event_of, events_of}
 use Rattle.vc_outside.specs.declared.record.Call.{Call}
 use Rattle.vc_outside.proofs.Events.{IsAsLong, read_after-push, crashed-push, crashed-long, IsRecord-front, IsRecord-last}
 

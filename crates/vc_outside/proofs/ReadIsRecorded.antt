@@ -1,11 +1,13 @@
--- What a store over memory holds keeps standing for its bytes.
-use Rattle.std.proofs.Common.{◌≡◌, ℕ, zero, suc, ◌+◌, ◌-◌, ◌≤◌, List, [], ◌∷◌, ◌++◌, length, take, drop, refl, sym, ◌∙◌, ap, subst, arith, length-take, length-drop, length-take-le}
+-- The bytes of a store over memory are what its record gives a read.
+use Rattle.std.proofs.Common.{◌≡◌, ℕ, zero, suc, ◌+◌, ◌-◌, ◌≤◌, List, [], ◌∷◌, ◌++◌, length, take, drop, refl, sym, ◌∙◌, ap, subst, inr, arith, length-take, length-drop, length-take-le}
 use Rattle.std.specs.Prelude.{slice_range}
 use Rattle.std.proofs.lemmas.List.{take_all}
-use Rattle.vc_outside.specs.Memory.{Held, IsHeld, May, shown, stored}
-use Rattle.vc_outside.specs.Record.{after, crashed, Event, Fits, IsRecord, read_after}
+use Rattle.vc_outside.specs.Memory.{Held, May, stored}
+use Rattle.vc_outside.specs.Laws.Invariant.{IsHeld}
+use Rattle.vc_outside.specs.Record.{after, crashed, Event, read_after}
+use Rattle.vc_outside.specs.Laws.Invariant.{Fits, IsRecord}
 use Rattle.vc_outside.specs.Told.{written, SameOutside}
-use Rattle.vc_outside.proofs.Events.{IsAsLong, IsRecord-push, Outcome-crashed, Outcome-shown, read_after-push}
+use Rattle.vc_outside.proofs.Events.{IsAsLong, IsRecord-push, Outcome-crashed, read_after-push}
 use Rattle.vc_outside.proofs.Writes.{range-written, outside-wider, outside-written, written-outside}
 
 pub held-first : (first bytes : List ℕ) (es : List Event) → bytes ≡ first → es ≡ [] → IsHeld first es bytes
@@ -32,17 +34,13 @@ module _ (k at : ℕ) (xs b : List ℕ) (within : at + length xs ≤ length b) (
   pub stored-long : length (stored k at xs b) ≡ length xs
   stored-long = grind (arith, length-take (at + length xs - at) (drop at (written at (take k xs) b)), length-drop at (written at (take k xs) b), outside.as_long)
 
--- what a read gives is an image that a crash may leave
-pub may-show : (h : Held) → IsRecord h.events h.first → May h (shown h)
-may-show h sound = Outcome-shown h.events h.first (λ d. d ≡ h.first) refl sound
-
 as_long : (p : ℕ) (b : List ℕ) → IsAsLong p b b
 as_long zero b = tt
 as_long (suc p) b = refl
 
--- and so is what a pick leaves
+-- what a pick leaves is an image that a crash may leave
 pub may-crash : (p : ℕ) (h : Held) → IsRecord h.events h.first → May h (crashed p h.events h.first h.first)
-may-crash p h sound = Outcome-crashed p h.events h.first (λ d. d ≡ h.first) h.first refl sound (as_long p h.first)
+may-crash p h sound = inr (Outcome-crashed p h.events h.first (λ d. d ≡ h.first) h.first refl sound (as_long p h.first))
 
 -- a write that stores all of its bytes
 pub stored-all : (k at : ℕ) (xs b : List ℕ) → at + length xs ≤ length b → k ≡ length xs → stored k at xs b ≡ xs

@@ -4,7 +4,7 @@ use Rattle.std.specs.Prelude.{slice_range}
 use Rattle.std.specs.List.{All}
 use Rattle.std.proofs.lemmas.List.{drop_at, take-append-le, drop-append-le, take_all}
 use Rattle.vc_outside.specs.Record.{Event, Wrote, Lost}
-use Rattle.vc_outside.specs.Kept.{Log, added, event_of, events_of, EndsBy}
+use Rattle.vc_outside.specs.Laws.Log.{Log, added, event_of, events_of, EndsBy}
 use Rattle.vc_outside.specs.declared.record.Call.{Call}
 use Rattle.vc_outside.specs.declared.record.Call.TheVariants.{Write, Loss, Length, Sync}
 
