@@ -10,7 +10,7 @@ pub returns-in-Some-clause-opened : goal.returns-in-Some-clause-opened
 returns-in-Some-clause-opened g c =
     is_first (g.D.Store.image c.args.disk.now) c.read_at.new.out c.args.kind c.in-Some.opened c.args.p.now c.args.pim c.len-len.result
     (header_read (g.D.Store.image c.args.disk.now) c.read_at.new.out c.slot_at.result 512 c.slot_at.ensures refl c.in-Ok.ensures.read)
-    (length_read (g.D.Store.image c.args.disk.now) (g.D.Store.size c.args.disk.now) c.len-len.result c.len-len.ensures (g.met.D.Store.image_is_whole c.args.disk.now))
+    (length_read (g.D.Store.image c.args.disk.now) (g.D.Store.size c.args.disk.now) c.len-len.result c.len-len.ensures.len (g.met.D.Store.image_is_whole c.args.disk.now))
     c.if-not-tries_standard.ensures.candidates
     c.in-Some.ensures.first c.in-Some.ensures.slot c.in-Some.ensures.fields
 
@@ -18,5 +18,5 @@ pub returns-in-None-clause-none_valid : goal.returns-in-None-clause-none_valid
 returns-in-None-clause-none_valid g c = λ _.
     none_valid (g.D.Store.image c.args.disk.now) c.read_at.new.out c.args.kind c.args.p.now c.args.pim c.len-len.result
     (header_read (g.D.Store.image c.args.disk.now) c.read_at.new.out c.slot_at.result 512 c.slot_at.ensures refl c.in-Ok.ensures.read)
-    (length_read (g.D.Store.image c.args.disk.now) (g.D.Store.size c.args.disk.now) c.len-len.result c.len-len.ensures (g.met.D.Store.image_is_whole c.args.disk.now))
+    (length_read (g.D.Store.image c.args.disk.now) (g.D.Store.size c.args.disk.now) c.len-len.result c.len-len.ensures.len (g.met.D.Store.image_is_whole c.args.disk.now))
     c.if-not-tries_standard.ensures.candidates c.in-None.ensures.first
