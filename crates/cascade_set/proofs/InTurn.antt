@@ -4,13 +4,13 @@ use Rattle.std.specs.Prelude.{slice_get}
 use Rattle.std.proofs.lemmas.Option.{slice_get_past}
 use Rattle.vc_base.specs.Bytes.{piece}
 use Rattle.cipher_base.specs.Xts.{xts}
-use Rattle.cascade_set.specs.Algorithms.{ciphers_of}
+use Rattle.algorithm_names.specs.Algorithms.{ciphers_of}
 use Rattle.cascade_set.specs.Cascade.{block_enciphered, block_deciphered, enciphered, deciphered, enciphered_from, deciphered_from}
 use Rattle.cascade_set.specs.Layers.{by_layer, undone_by_layer, layer_at, layer_undone_at}
-use Rattle.cascade_set.specs.declared.algorithm.Algorithm.{Algorithm}
-use Rattle.cascade_set.specs.declared.algorithm.Algorithm.TheVariants.{Aes, Serpent, Twofish, AesTwofish, AesTwofishSerpent, SerpentAes, SerpentTwofishAes, TwofishSerpent}
-use Rattle.cascade_set.specs.declared.algorithm.Cipher.{Cipher}
-use Rattle.cascade_set.specs.declared.algorithm.Keys.{Keys}
+use Rattle.algorithm_names.specs.declared.algorithm.Algorithm.{Algorithm}
+use Rattle.algorithm_names.specs.declared.algorithm.Algorithm.TheVariants.{Aes, Serpent, Twofish, AesTwofish, AesTwofishSerpent, SerpentAes, SerpentTwofishAes, TwofishSerpent}
+use Rattle.algorithm_names.specs.declared.algorithm.Cipher.{Cipher}
+use Rattle.cascade_set.specs.declared.keys.Keys.{Keys}
 
 pub in_turn : (keys : Keys) (n : ℕ) (s : List ℕ)
     → layer_at keys 2 n (layer_at keys 1 n (layer_at keys 0 n s)) ≡ enciphered keys n s

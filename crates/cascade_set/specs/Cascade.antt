@@ -12,10 +12,10 @@ use Rattle.cipher_base.specs.Xts.{xts}
 use Rattle.aes_core.specs.Aes as aes
 use Rattle.serpent_core.specs.Serpent as serpent
 use Rattle.twofish_core.specs.Twofish as twofish
-use Rattle.cascade_set.specs.Algorithms.{ciphers_of}
-use Rattle.cascade_set.specs.declared.algorithm.Cipher.{Cipher}
-use Rattle.cascade_set.specs.declared.algorithm.Cipher.TheVariants.{Aes, Serpent, Twofish}
-use Rattle.cascade_set.specs.declared.algorithm.Keys.{Keys}
+use Rattle.algorithm_names.specs.Algorithms.{ciphers_of}
+use Rattle.algorithm_names.specs.declared.algorithm.Cipher.{Cipher}
+use Rattle.algorithm_names.specs.declared.algorithm.Cipher.TheVariants.{Aes, Serpent, Twofish}
+use Rattle.cascade_set.specs.declared.keys.Keys.{Keys}
 
 -- a block under a key of 32 bytes
 abbrev pub block_enciphered : Cipher → List ℕ → List ℕ → List ℕ

@@ -1,9 +1,9 @@
 -- The layers of an algorithm one by one, of which there are up to three.
 use Rattle.std.specs.Prelude.{ℕ, List, length, Option, Some, None, slice_get}
-use Rattle.cascade_set.specs.Algorithms.{ciphers_of}
+use Rattle.algorithm_names.specs.Algorithms.{ciphers_of}
 use Rattle.cascade_set.specs.Cascade.{layer_enciphered, layer_deciphered}
-use Rattle.cascade_set.specs.declared.algorithm.Cipher.{Cipher}
-use Rattle.cascade_set.specs.declared.algorithm.Keys.{Keys}
+use Rattle.algorithm_names.specs.declared.algorithm.Cipher.{Cipher}
+use Rattle.cascade_set.specs.declared.keys.Keys.{Keys}
 
 abbrev pub by_layer : Option Cipher → ℕ → ℕ → List ℕ → ℕ → List ℕ → List ℕ
 by_layer None k i material n stretch = stretch

@@ -1,5 +1,3 @@
--- the algorithms, their names and ciphers
-pub mod Algorithms
 -- data units and header bodies under an algorithm
 pub mod Cascade
 -- its layers one by one
@@ -8,3 +6,5 @@ pub mod Layers
 pub mod Laws
 -- the plain volume
 pub mod Volume
+-- the algorithms, their names and ciphers
+pub use Rattle.algorithm_names.specs.Algorithms

@@ -7,7 +7,7 @@
 --                                       `start`: sector i is the data unit start / 512 + i
 use Rattle.std.specs.Prelude.{ℕ, ◌+◌, ◌/◌, List}
 use Rattle.vc_base.specs.Bytes.{joined, piece}
-use Rattle.cascade_set.specs.declared.algorithm.Keys.{Keys}
+use Rattle.cascade_set.specs.declared.keys.Keys.{Keys}
 use Rattle.cascade_set.specs.Cascade.{deciphered}
 
 abbrev pub plain_units : (ℕ → List ℕ → List ℕ) → List ℕ → ℕ → ℕ → List ℕ

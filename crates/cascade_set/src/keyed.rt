@@ -1,15 +1,16 @@
 //! Data units and header bodies under an algorithm's keys.
 ghost use Rattle.std.specs.Prelude.{◌≡◌, ◌<◌, ◌+◌, ℕ, List, length};
 ghost use Rattle.vc_base.specs.Bytes.{IsBytes, piece};
-ghost use Rattle.cascade_set.specs.Algorithms.{ciphers_of};
+ghost use Rattle.algorithm_names.specs.Algorithms.{ciphers_of};
 ghost use Rattle.cascade_set.specs.Cascade.{enciphered, deciphered};
 ghost use Rattle.cascade_set.specs.Layers.{layer_at, layer_undone_at};
 ghost use Rattle.cascade_set.specs.Laws.{IsLawful};
 
-use crate::algorithm::{Cipher, Keys};
+use crate::keys::Keys;
 use crate::layer::Layer;
 use crate::stretch::{AnyLayer, Stretch};
 use aes_core::Aes256;
+use algorithm_names::Cipher;
 use cipher_base::UnitCipher;
 use serpent_core::Serpent256;
 use twofish_core::Twofish256;

@@ -1,4 +1,5 @@
-//! The algorithms: which ciphers they are, how key material is cut, and data units under them.
+//! The algorithms at work: how key material is cut, and data units under them. `algorithm_names` has
+//! their names.
 //!
 //! An algorithm is a cascade of one to three ciphers, each a whole XTS pass with keys of its own. No call
 //! refuses or takes memory. `docs/FORMAT.md`, "Keys", has the picture of the key material.
@@ -6,11 +7,12 @@
 //! Source: VeraCrypt's documentation, "Encryption Algorithms" and "Cascades of Ciphers".
 #![tactic(auto)]
 
-pub use algorithm::{Algorithm, Cipher, Keys};
+pub use algorithm_names::{Algorithm, Cipher};
 pub use keyed::Keyed;
+pub use keys::Keys;
 
-pub mod algorithm;
 pub mod keyed;
+pub mod keys;
 mod layer;
 mod stretch;
 #[cfg(test)]

@@ -1,4 +1,4 @@
-use crate::{Algorithm, Cipher, Keyed, Keys};
+use crate::{Algorithm, Keyed, Keys};
 use cipher_base::UnitCipher;
 
 // The first and the last 8 bytes that the bytes i modulo 256 become under data unit 5, with the material 0 to
@@ -87,16 +87,4 @@ fn a_header_body_comes_back(rt: HostRuntime) {
         keyed.unheader(&mut body);
         assert!(rt; body == [7u8; 448], "{i}");
     }
-}
-
-#[test]
-fn layers_stand_in_the_order_of_enciphering(rt: HostRuntime) {
-    // by hand
-    let algorithm = Algorithm::SerpentTwofishAes;
-    assert_eq!(rt; algorithm.ciphers(), 3);
-    assert_eq!(rt; algorithm.layer(0), Cipher::Aes);
-    assert_eq!(rt; algorithm.layer(1), Cipher::Twofish);
-    assert_eq!(rt; algorithm.layer(2), Cipher::Serpent);
-    assert_eq!(rt; algorithm.name(), "serpent-twofish-aes");
-    assert!(rt; Algorithm::from_name("camellia").is_none());
 }

@@ -1,6 +1,6 @@
 -- a loop over the pieces of a list
 pub mod Loops
--- exclusive or of lists of bytes
+-- XOR of lists of bytes
 pub mod Masks
 -- times x in GF(2^128)
 pub mod Doubling

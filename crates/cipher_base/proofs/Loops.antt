@@ -1,6 +1,6 @@
 -- A loop that writes a list piece by piece, from the front, leaves `in_pieces`.
 --
--- After q pieces the front is what the pieces became, and the rest is as it was: `Done`. That starts at
+-- After q pieces the prefix is what the pieces became, and the rest is as it was: `Done`. That starts at
 -- q = 0, goes on by one write to the piece at n * q, and at the last piece it is `in_pieces`.
 use Rattle.std.proofs.Common.{◌≡◌, ℕ, ◌+◌, ◌*◌, ◌/◌, ◌%◌, ◌<◌, ◌≤◌, List, ◌++◌, length, take, drop, refl, sym, ap, ap₂, subst, ◌∙◌, arith}
 use Rattle.std.proofs.lemmas.Slice.{take-put_mid, drop-put_mid}
@@ -53,7 +53,7 @@ ends n q f old now d positive past within whole =
     let all : length now ≤ n * q = let l = d.long in let at_end = ap (λ i. n * i) last in omega arith in
     sym (take_all (n * q) now all) ∙ d.front ∙ ap (joined (λ j. f j (piece n j old))) last
 
--- ---- a list that is filled from the front, where nothing is asked of what stood in it
+-- ---- a list that is filled from its start, whatever it held
 
 pub record Filled {X : Type 0} (n q : ℕ) (f : ℕ → List X) (now : List X) : Type 0 where
   pub front : take (n * q) now ≡ joined f q

@@ -1,4 +1,4 @@
--- The exclusive or of two lists of bytes, of which the second may be longer: piece by piece, and byte by byte.
+-- The XOR of two lists of bytes, of which the second may be longer: piece by piece, and byte by byte.
 use Rattle.std.proofs.Common.{◌≡◌, ℕ, zero, suc, ◌*◌, ◌<◌, ◌≤◌, List, [], ◌∷◌, length, take, drop, get_or, refl, sym, ap, ◌∙◌, arith}
 use Rattle.std.specs.Int.Bits.{bit_xor}
 use Rattle.std.proofs.lemmas.Grind.{same_number_lists}

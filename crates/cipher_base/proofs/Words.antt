@@ -51,7 +51,7 @@ pub bytes_of_words : (low high : ℕ) → low < 2 ^ 64 → high < 2 ^ 64
 bytes_of_words low high low_fits high_fits =
     ap₂ ◌++◌ (sym (eight low)) (sym (eight high)) ∙ bytes_joined low high low_fits high_fits
 
--- the front 8 of 16 bytes were written, and then the rest
+-- the first 8 of 16 bytes were written, and then the rest
 pub both_written : (block low_bytes high_bytes : List ℕ) (low high : ℕ) → length block ≡ 16
     → low_bytes ≡ to_bytes 8 low → high_bytes ≡ to_bytes 8 high → low < 2 ^ 64 → high < 2 ^ 64
     → put_mid 8 (length (low_bytes ++ drop 8 block) - 8) (low_bytes ++ drop 8 block) high_bytes

@@ -2,10 +2,10 @@
 --
 -- What the cipher makes of blocks is blocks, and so is a tweak. So block j of what `xts` makes is the whitened block j,
 -- and whitening it the other way cancels each mask and leaves the block.
-use Rattle.std.proofs.Common.{◌≡◌, ℕ, ◌*◌, ◌^◌, ◌<◌, List, refl, sym, ap, ◌∙◌}
+use Rattle.std.proofs.Common.{◌≡◌, ℕ, ◌+◌, ◌*◌, ◌/◌, ◌%◌, ◌^◌, ◌<◌, List, refl, sym, ap, subst, ◌∙◌, arith}
 use Rattle.std.proofs.Math.Nat.{zero-lt-suc, le_of_eq}
 use Rattle.vc_base.specs.Bytes.{IsBytes, from_bytes, to_bytes, xor_bytes, piece}
-use Rattle.vc_base.specs.Polynomial.{product}
+use Rattle.vc_base.specs.Polynomial.{coefficients, remainder}
 use Rattle.vc_base.proofs.Pieces.{piece-joined, piece_of_whole, in_pieces-joined, in_pieces_alone}
 use Rattle.vc_base.proofs.Bytes.{IsBytes-to_bytes, IsBytes-xor, IsBytes-piece, IsBytes-in_pieces, xor_bytes_cancel}
 use Rattle.cipher_base.specs.Field.{xts_polynomial}
@@ -13,7 +13,7 @@ use Rattle.cipher_base.specs.Xts.{tweak, whitened, xts}
 
 pub IsBytes-tweak : (tweak_of : List ℕ → List ℕ) (n j : ℕ) → IsBytes 16 (tweak tweak_of n j)
 IsBytes-tweak tweak_of n j =
-    IsBytes-to_bytes 16 (product 128 xts_polynomial (from_bytes (tweak_of (to_bytes 16 n))) (2 ^ j))
+    IsBytes-to_bytes 16 (remainder 128 xts_polynomial (coefficients (j + 128) (2 ^ j * from_bytes (tweak_of (to_bytes 16 n)))))
 
 pub IsBytes-whitened : (main : List ℕ → List ℕ) (t p : List ℕ) → ((b : List ℕ) → IsBytes 16 b → IsBytes 16 (main b))
     → IsBytes 16 t → IsBytes 16 p → IsBytes 16 (whitened main t p)
@@ -60,3 +60,11 @@ xts_undone m main back tweak_of n u keeps undoes bytes =
     (λ j h. sym (ap (whitened back (tweak tweak_of n j)) (piece-xts m main tweak_of n j u keeps bytes h)
     ∙ whitened_undone main back (tweak tweak_of n j) (piece 16 j u) keeps undoes (IsBytes-tweak tweak_of n j)
     (IsBytes-piece (16 * m) 16 j u bytes (piece_of_whole 16 j m (16 * m) refl h)))))
+
+-- the same for a stretch of l bytes
+pub xts_undone_whole : (l : ℕ) (main back tweak_of : List ℕ → List ℕ) (n : ℕ) (u : List ℕ)
+    → ((b : List ℕ) → IsBytes 16 b → IsBytes 16 (main b)) → ((b : List ℕ) → IsBytes 16 b → back (main b) ≡ b)
+    → l % 16 ≡ 0 → IsBytes l u → xts back tweak_of n (xts main tweak_of n u) ≡ u
+xts_undone_whole l main back tweak_of n u keeps undoes whole bytes =
+    let blocks : l ≡ 16 * (l / 16) = omega arith in
+    xts_undone (l / 16) main back tweak_of n u keeps undoes (subst (λ k. IsBytes k u) blocks bytes)

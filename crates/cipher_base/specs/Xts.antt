@@ -13,7 +13,7 @@ tweak tweak_of n j = times_power j (tweak_of (to_bytes 16 n))
 abbrev pub whitened : (List ℕ → List ℕ) → List ℕ → List ℕ → List ℕ
 whitened main t p = xor_bytes (main (xor_bytes p t)) t
 
--- A stretch of up to 128 whole blocks under data unit n: block j is whitened with T_j. For deciphering, main is
--- the cipher's deciphering; tweak_of is its enciphering in both directions.
+-- A stretch of whole blocks under data unit n: block j is whitened with T_j. For deciphering, main is the cipher's
+-- deciphering; tweak_of is its enciphering in both directions.
 abbrev pub xts : (List ℕ → List ℕ) → (List ℕ → List ℕ) → ℕ → List ℕ → List ℕ
 xts main tweak_of n stretch = in_pieces 16 (λ j p. whitened main (tweak tweak_of n j) p) stretch

@@ -1,10 +1,10 @@
 //! Block ciphers and data units: the two fields, the two traits, and XTS.
 //!
-//! A block cipher enciphers blocks of 16 bytes under a key of its own. XTS makes of a block cipher under
-//! two keys a cipher of data units of 512 bytes, each under its number. `BlockCipher` and `UnitCipher`
+//! A block cipher enciphers blocks of 16 bytes under its own key. XTS turns a block cipher under two keys
+//! into a cipher of data units of 512 bytes, each under its number. `BlockCipher` and `UnitCipher`
 //! are what the layers above know of them: what a block or a unit becomes, in both directions, and that
-//! each direction undoes the other. The ciphers themselves stand in crates of their own. No call here
-//! refuses or takes memory.
+//! each direction undoes the other. The ciphers themselves are in other crates. No call here
+//! returns an error or allocates.
 //!
 //! Sources: FIPS 197 for GF(2^8), IEEE 1619 for GF(2^128) and XTS.
 #![tactic(auto)]

@@ -1,5 +1,5 @@
 //! XTS: a block cipher under two keys, as a cipher of data units.
-ghost use Rattle.std.specs.Prelude.{◌≡◌, ◌+◌, ◌%◌, ◌^◌, ◌≤◌, ◌<◌, ℕ, length};
+ghost use Rattle.std.specs.Prelude.{◌≡◌, ◌+◌, ◌%◌, ◌^◌, ◌≤◌, ◌<◌, ℕ, List, length};
 ghost use Rattle.vc_base.specs.Bytes.{IsBytes, joined, xor_bytes, to_bytes, piece, in_pieces};
 ghost use Rattle.cipher_base.specs.Field.{times_power};
 ghost use Rattle.cipher_base.specs.Xts.{whitened, xts};
@@ -30,7 +30,9 @@ impl<P: BlockCipher> Xts<P> {
     pub fn encipher_stretch(&self, unit: u64, stretch: &mut [u8])
         requires whole { length stretch.old % 16 ≡ 0 }
         requires short { length stretch.old ≤ 512 }
-        ensures { stretch.new ≡ xts (P.enciphered self.now.main) (P.enciphered self.now.tweak) unit stretch.old }
+        ensures enciphered { stretch.new ≡ xts (P.enciphered self.now.main) (P.enciphered self.now.tweak) unit stretch.old }
+        ensures undoes { (u : List ℕ) → IsBytes (length stretch.old) u
+            → stretch.old ≡ xts (P.deciphered self.now.main) (P.enciphered self.now.tweak) unit u → stretch.new ≡ u }
     {
         self.encipher_from(self.first_tweak(unit), stretch);
     }
@@ -39,7 +41,9 @@ impl<P: BlockCipher> Xts<P> {
     pub fn decipher_stretch(&self, unit: u64, stretch: &mut [u8])
         requires whole { length stretch.old % 16 ≡ 0 }
         requires short { length stretch.old ≤ 512 }
-        ensures { stretch.new ≡ xts (P.deciphered self.now.main) (P.enciphered self.now.tweak) unit stretch.old }
+        ensures deciphered { stretch.new ≡ xts (P.deciphered self.now.main) (P.enciphered self.now.tweak) unit stretch.old }
+        ensures undoes { (u : List ℕ) → IsBytes (length stretch.old) u
+            → stretch.old ≡ xts (P.enciphered self.now.main) (P.enciphered self.now.tweak) unit u → stretch.new ≡ u }
     {
         self.decipher_from(self.first_tweak(unit), stretch);
     }

@@ -4,8 +4,8 @@ use Rattle.std.specs.Prelude.{codes, nat_le}
 use Rattle.clap.proofs.WalkLemmas.{both}
 use Rattle.kdf_hmac.specs.Prfs.{prf_named}
 use Rattle.kdf_hmac.specs.declared.prf.Prf.TheVariants.{Sha512}
-use Rattle.cascade_set.specs.Algorithms.{named}
-use Rattle.cascade_set.specs.declared.algorithm.Algorithm.TheVariants.{Aes}
+use Rattle.algorithm_names.specs.Algorithms.{named}
+use Rattle.algorithm_names.specs.declared.algorithm.Algorithm.TheVariants.{Aes}
 use Rattle.cmd_words.specs.declared.choice.Choice.TheVariants as choice
 use Rattle.cmd_words.specs.Line.{Line, Text, Use, cat_of, drill_of, format, hide, info_of, is_allowed, line, line_by, made_of, needs, number_in, number_within, or_default, passwd_of, password_in, perhaps, pim_in, protect_of, protected, restore_of, serve_of, position, random_in, choice_in, served, uses, value_of, wanted, within}
 use Rattle.cmd_words.specs.Line.{Form as LineForm}

@@ -18,13 +18,13 @@ use Rattle.std.specs.Str.Parse.{digits_value}
 use Rattle.kdf_hmac.specs.declared.prf.Prf.{Prf}
 use Rattle.kdf_hmac.specs.declared.prf.Prf.TheVariants.{Sha512}
 use Rattle.kdf_hmac.specs.Prfs.{prf_named}
-use Rattle.cascade_set.specs.declared.algorithm.Algorithm.{Algorithm}
-use Rattle.cascade_set.specs.declared.algorithm.Algorithm.TheVariants.{Aes}
-use Rattle.cascade_set.specs.Algorithms.{named}
+use Rattle.algorithm_names.specs.declared.algorithm.Algorithm.{Algorithm}
+use Rattle.algorithm_names.specs.declared.algorithm.Algorithm.TheVariants.{Aes}
+use Rattle.algorithm_names.specs.Algorithms.{named}
 use Rattle.cmd_words.specs.declared.choice.Choice.{Choice}
 use Rattle.cmd_words.specs.declared.choice.Choice.TheVariants as choice
-use Rattle.header_try.specs.declared.kind.Kind.{Kind}
-use Rattle.header_try.specs.declared.kind.Kind.TheVariants.{Any, StandardOnly, HiddenOnly, AnyBackup, StandardBackup, HiddenBackup}
+use Rattle.vc_layout.specs.declared.kind.Kind.{Kind}
+use Rattle.vc_layout.specs.declared.kind.Kind.TheVariants.{Any, StandardOnly, HiddenOnly, AnyBackup, StandardBackup, HiddenBackup}
 
 abbrev pub Text : Type 0
 Text = List ℕ

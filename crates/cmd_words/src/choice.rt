@@ -2,7 +2,7 @@
 ghost use Rattle.std.specs.Prelude.{◌≡◌, ◌<◌};
 ghost use Rattle.cmd_words.specs.Line.{kind_of};
 
-use header_try::Kind;
+use vc_layout::Kind;
 
 /// The value of `--kind`.
 #[derive(Clone, Copy, Debug, PartialEq, Eq)]

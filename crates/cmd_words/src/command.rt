@@ -2,9 +2,9 @@
 ghost use Rattle.std.specs.Prelude.{◌≡◌, option_map};
 ghost use Rattle.cmd_words.specs.Meaning.{meaning, path_of};
 
-use cascade_set::Algorithm;
-use header_try::Kind;
+use algorithm_names::Algorithm;
 use kdf_hmac::{Password, Prf};
+use vc_layout::Kind;
 
 /// What the program is asked to do. Sizes are in bytes, `first` and `count` in sectors, and a PIM
 /// of 0 is none.

@@ -1,7 +1,7 @@
 //! What the words give: the value of each option, and the positions.
 ghost use Rattle.std.specs.Prelude.{◌≡◌, ◌<◌, Some, codes, length, option_map, slice_get};
 ghost use Rattle.kdf_hmac.specs.Prfs.{prf_named};
-ghost use Rattle.cascade_set.specs.Algorithms.{named};
+ghost use Rattle.algorithm_names.specs.Algorithms.{named};
 ghost use Rattle.cmd_words.specs.Line.{choice_in, is_given, number_in, number_within, or_default};
 ghost use Rattle.cmd_words.specs.Line.{password_in, perhaps, pim_in, position, random_in};
 ghost use Rattle.cmd_words.specs.Line.{value_of, wanted};
@@ -11,7 +11,7 @@ ghost use Rattle.cmd_words.specs.Found.{uses_found};
 use crate::choice::Choice;
 use crate::parse::PLACES;
 use crate::values::{choice_in, number_in, password_in, pim_in, random_in, small_within};
-use cascade_set::Algorithm;
+use algorithm_names::Algorithm;
 use clap::ArgMatches;
 use kdf_hmac::{Password, Prf};
 

@@ -8,14 +8,15 @@ use Rattle.kdf_hmac.specs.declared.prf.Prf.TheVariants.{Sha512, Sha256}
 use Rattle.kdf_hmac.specs.Prfs.{all_prfs}
 use Rattle.kdf_hmac.specs.Pbkdf2.{derived}
 use Rattle.vc_header.specs.declared.fields.Fields.{Fields}
-use Rattle.cascade_set.specs.declared.algorithm.Algorithm.{Algorithm}
-use Rattle.cascade_set.specs.Algorithms.{all_algorithms}
+use Rattle.algorithm_names.specs.declared.algorithm.Algorithm.{Algorithm}
+use Rattle.algorithm_names.specs.Algorithms.{all_algorithms}
 use Rattle.vc_layout.specs.declared.slots.Slot.{Slot}
 use Rattle.vc_layout.specs.declared.slots.Slot.TheVariants.{Standard}
 use Rattle.vc_header.specs.Header.{is_valid, fields_of}
-use Rattle.header_try.specs.declared.kind.Kind.{Kind}
-use Rattle.header_try.specs.declared.kind.Opened.{Opened}
-use Rattle.header_try.specs.Candidates.{Candidate, candidates, candidate_of, candidates_of, first, header_at, plain_by, plain_under, is_valid_in, is_valid_under, IsFirst}
+use Rattle.vc_layout.specs.declared.kind.Kind.{Kind}
+use Rattle.header_seal.specs.declared.opened.Opened.{Opened}
+use Rattle.header_seal.specs.Sealed.{header_at, plain_by, plain_under}
+use Rattle.header_seal.specs.Candidates.{Candidate, candidates, candidate_of, candidates_of, first, is_valid_in, is_valid_under, IsFirst}
 use Rattle.header_try.proofs.Finding.{find-map, found_alike, found_in_first, found_in_second}
 
 -- what was read at the standard slot is the container's first 512 bytes

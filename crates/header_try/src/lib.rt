@@ -8,10 +8,12 @@
 //! `docs/FORMAT.md`, "Opening", has the order of the candidates.
 #![tactic(auto)]
 
-pub use kind::{Kind, OpenError, Opened};
+pub use header_seal::Opened;
 pub use open::open_plain;
+pub use open_error::OpenError;
 pub use slot::try_slot;
+pub use vc_layout::Kind;
 
-pub mod kind;
 pub mod open;
+pub mod open_error;
 pub mod slot;

@@ -1,19 +1,21 @@
 //! Opening over a store.
-ghost use Rattle.std.specs.Prelude.{◌≡◌, ◌≤◌, ◌≢◌, ℕ, [], IfSome, IfOk, OnOk, Err, None, IsErrOf, Contains, MatchBool, take, find, option_map};
+ghost use Rattle.std.specs.Prelude.{◌≡◌, ◌≤◌, ◌≢◌, ℕ, [], IfSome, IfOk, OnOk, Err, None, IsErrOf, Contains, MatchBool, find, option_map};
 ghost use Rattle.std.specs.List.{flat_map};
 ghost use Rattle.vc_base.specs.Faults.{HasCause};
 ghost use Rattle.vc_layout.specs.Layout.{IsContainerLength};
 ghost use Rattle.vc_layout.specs.declared.slots.Slot.TheVariants.{Standard};
 ghost use Rattle.kdf_hmac.specs.Prfs.{all_prfs};
-ghost use Rattle.kdf_hmac.specs.Pbkdf2.{derived};
 ghost use Rattle.vc_header.specs.Header.{fields_of, Meets};
-ghost use Rattle.header_try.specs.Candidates.{candidate_of, candidates, candidates_of, first, IsFirst, is_valid_under, plain_by, slots_of};
+ghost use Rattle.header_seal.specs.Candidates.{candidate_of, candidates, candidates_of, first, IsFirst, is_valid_under};
+ghost use Rattle.header_seal.specs.Sealed.{plain_by};
+ghost use Rattle.vc_layout.specs.Kinds.{slots_of};
 
-use crate::kind::{Kind, OpenError, Opened};
+use crate::open_error::OpenError;
 use crate::slot::try_slot;
-use kdf_hmac::{Password, Prf, iterations, pbkdf2};
+use header_seal::{Opened, derive};
+use kdf_hmac::{Password, Prf};
 use vc_header::{HEADER, SALT};
-use vc_layout::{Slot, is_container_length, slot_at};
+use vc_layout::{Kind, Slot, is_container_length, slot_at};
 use vc_outside::Store;
 
 /// Opens the first valid candidate of a kind.
@@ -104,7 +106,7 @@ fn try_prf(
     ensures slot { IfSome result (λ o. o.slot ≡ slot) }
     ensures meets { IfSome result (λ o. Meets o.fields slot len) }
 {
-    let derived = derive(prf, p, pim, header);
+    let derived = derive(prf, p, pim, &header[..SALT]);
     match try_slot(&derived, header, slot, len) {
         Some((algorithm, fields)) => Some(Opened {
             slot,
@@ -114,21 +116,4 @@ fn try_prf(
         }),
         None => None,
     }
-}
-
-// The keys that a password derives for a header.
-#[tactic(auto, unfolding(kdf_hmac::specs::Pbkdf2::derived))]
-fn derive(prf: Prf, p: &Password, pim: u32, header: &[u8; 512]) -> [u8; 192]
-    requires { pim ≤ 2147468 }
-    ensures { result ≡ derived prf p.now pim (take 64 header.now) }
-{
-    let mut derived = [0u8; 192];
-    pbkdf2(
-        prf,
-        p.bytes(),
-        &header[..SALT],
-        iterations(pim),
-        &mut derived,
-    );
-    derived
 }

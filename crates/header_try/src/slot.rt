@@ -1,11 +1,12 @@
 //! One slot's header under derived keys.
-ghost use Rattle.std.specs.Prelude.{◌≡◌, ◌≤◌, ◌↔◌, ◌<◌, IsSome, IfSome, IsTrue, IsNone, Option, None, find, option_map, take};
-ghost use Rattle.cascade_set.specs.declared.algorithm.Algorithm.{Algorithm};
-ghost use Rattle.cascade_set.specs.Algorithms.{all_algorithms};
+ghost use Rattle.std.specs.Prelude.{◌≡◌, ◌≤◌, ◌↔◌, ◌<◌, IsSome, IfSome, IsTrue, IsNone, Option, None, find, option_map};
+ghost use Rattle.algorithm_names.specs.declared.algorithm.Algorithm.{Algorithm};
+ghost use Rattle.algorithm_names.specs.Algorithms.{all_algorithms};
 ghost use Rattle.vc_header.specs.Header.{fields_of, is_valid, Valid};
-ghost use Rattle.header_try.specs.Candidates.{plain_under};
+ghost use Rattle.header_seal.specs.Sealed.{plain_under};
 
-use cascade_set::{Algorithm, Keyed, Keys};
+use algorithm_names::Algorithm;
+use header_seal::unseal;
 use vc_header::{Fields, SALT, read_plain, validity_is_decided};
 use vc_layout::Slot;
 
@@ -50,20 +51,5 @@ fn try_algorithm(
     ensures fields { IfSome result (λ f. f ≡ fields_of (plain_under algorithm derived.now header.now)) }
 {
     validity_is_decided();
-    read_plain(&plain(algorithm, derived, header), slot, len)
-}
-
-// The header's body, deciphered.
-#[tactic(auto, unfolding(crate::specs::Candidates::plain_under))]
-fn plain(algorithm: Algorithm, derived: &[u8; 192], header: &[u8; 512]) -> [u8; 448]
-    ensures { result ≡ plain_under algorithm derived.now header.now }
-{
-    let keyed = Keyed::new(&Keys {
-        algorithm,
-        material: *derived,
-    });
-    let mut body = [0u8; 448];
-    body.copy_from_slice(&header[SALT..]);
-    keyed.unheader(&mut body);
-    body
+    read_plain(&unseal(algorithm, derived, &header[SALT..]), slot, len)
 }

@@ -13,8 +13,8 @@ use Rattle.kdf_hmac.specs.declared.prf.Prf.{Prf}
 use Rattle.kdf_hmac.specs.declared.prf.Prf.TheVariants.{Sha512, Sha256}
 use Rattle.kdf_hmac.specs.Hmac.{output_length}
 use Rattle.kdf_hmac.specs.Pbkdf2.{block_count, pbkdf2_bytes}
-use Rattle.kdf_hmac.specs.Progress.{Filled, block}
-use Rattle.kdf_hmac.proofs.Turns.{length-t}
+use Rattle.kdf_hmac.specs.Laws.Progress.{Filled, block}
+use Rattle.kdf_hmac.proofs.Steps.{length-t}
 
 -- ---- lists of one length, joined
 
@@ -96,12 +96,12 @@ pub blocks_suffice : (prf : Prf) (l : ℕ) → l ≤ output_length prf * block_c
 blocks_suffice Sha512 l = omega arith
 blocks_suffice Sha256 l = omega arith
 
--- a block takes c turns
+-- a block takes c steps
 one_left : (m c : ℕ) → 1 ≤ m → c ≤ m * c
 one_left zero c some = absurd (omega (arith, some))
 one_left (suc m) c some = omega arith
 
--- after i of m blocks and j turns of the next, none is left: all blocks are done
+-- after i of m blocks and j steps of the next, none is left: all blocks are done
 pub all_done : (m c i j : ℕ) → i ≤ m → j < c → (m - i) * c - j ≡ 0 → i ≡ m
 all_done m c i j within short none = grind (arith, within, short, none, one_left (m - i) c)
 
@@ -119,7 +119,7 @@ all_bytes prf p s c l out i whole last done =
     let enough : l ≤ n * i = omega (arith, bytes, blocks_suffice prf l) in
     filled_all (block prf p s c) n l out i whole enough done ∙ ap (λ (k : ℕ). take l (joined (block prf p s c) k)) last
 
--- the count, where the code has the length of a block as n
+-- the count, where the mac has the length of a block as n
 pub count_is : (prf : Prf) (l n : ℕ) → n ≡ output_length prf → (l + n - 1) / n ≡ block_count prf l
 count_is prf l n n_is = ap (λ (k : ℕ). (l + k - 1) / k) n_is
 

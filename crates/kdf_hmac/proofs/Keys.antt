@@ -80,14 +80,14 @@ block_of_long prf key field long is =
     ∙ take_zeros digest (block_length prf) (zeros + 64) low high
     ∙ ap (λ k. k ++ replicate (block_length prf - length k) 0) (sym choice)
 
--- ---- the code, from the digest under the inner pad, in its field
+-- ---- the mac, from the digest under the inner pad, in its field
 
-pub code_of_digest : (prf : Prf) (key text digest out : List ℕ) (n : ℕ) → n ≡ output_length prf
+pub mac_of_digest : (prf : Prf) (key text digest out : List ℕ) (n : ℕ) → n ≡ output_length prf
     → digest ≡ padded prf (hash prf (xor_bytes (key_block prf key) (ipad prf) ++ text))
     → out ≡ padded prf (hash prf (xor_bytes (key_block prf key) (opad prf) ++ take n digest))
     → out ≡ padded prf (hmac_of prf key text)
 unfolding hmac_of
-code_of_digest prf key text digest out n size digest_is out_is =
+mac_of_digest prf key text digest out n size digest_is out_is =
     let first : take n digest ≡ hash prf (xor_bytes (key_block prf key) (ipad prf) ++ text)
     = ap (λ (k : ℕ). take k digest) size ∙ ap (take (output_length prf)) digest_is
     ∙ take-padded prf _ (length-hash prf (xor_bytes (key_block prf key) (ipad prf) ++ text)) in

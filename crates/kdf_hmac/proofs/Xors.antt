@@ -1,7 +1,7 @@
--- The exclusive or of two lists of bytes: its length, its elements, and a first part of it.
+-- The XOR of two lists of bytes: its length, its elements, and a first part of it.
 --
--- All is by induction along both lists. A list whose elements are the exclusive ors of those of two others
--- of its length is the exclusive or of the two.
+-- All is by induction along both lists. A list whose elements are the XORs of those of two others
+-- of its length is the XOR of the two.
 use Rattle.std.proofs.Common.{◌≡◌, ◌<◌, ◌≤◌, ℕ, zero, suc, List, [], ◌∷◌, length, take, get_or, replicate, bit_xor}
 use Rattle.std.proofs.Common.{refl, sym, ap, ap₂, ◌∙◌, arith}
 use Rattle.std.specs.Int.Bits.{xor_zero_l}
@@ -43,7 +43,7 @@ xor_of_elements out xs ys e f each =
     ext_get_or 0 out (xor_bytes xs ys) (e ∙ sym (length-xor_bytes xs ys f))
     (λ k h. each k h ∙ sym (get_or-xor_bytes xs ys k (omega (arith, h, e)) (omega (arith, h, e, f))))
 
--- the first n bytes, where each is the exclusive or with one byte
+-- the first n bytes, each XORed with one byte
 pub xor_with_byte : (n m : ℕ) (out xs : List ℕ) (byte : ℕ) → n ≤ m → length out ≡ m → length xs ≡ m
     → ((k : ℕ) → k < m → get_or out k 0 ≡ bit_xor (get_or xs k 0) byte)
     → take n out ≡ xor_bytes (take n xs) (replicate n byte)

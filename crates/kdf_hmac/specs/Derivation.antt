@@ -1,5 +1,5 @@
--- A derivation of 192 bytes by PBKDF2 (RFC 8018, section 5.2) that goes by turns. A turn is one U_j of one
--- block T_i. left says how many turns are left.
+-- A derivation of 192 bytes by PBKDF2 (RFC 8018, section 5.2) that goes by steps. A step is one U_j of one
+-- block T_i. left says how many steps are left.
 use Rattle.std.specs.Prelude.{ℕ, List}
 use Rattle.kdf_hmac.specs.declared.prf.Prf.{Prf}
 

@@ -5,7 +5,7 @@
 -- block_length prf      B: the length of a block of H
 -- output_length prf     L: the length of a digest
 -- key_block prf key     K: the key as a block
--- hmac_of prf key text  the code of the text under the key
+-- hmac_of prf key text  the MAC of the text under the key
 -- padded prf xs         L bytes in a field of 64, with zeros after them
 use Rattle.std.specs.Prelude.{ℕ, ◌-◌, List, ◌++◌, length, replicate, if◌then◌else◌, nat_lt}
 use Rattle.sha2.specs.Sha256.{sha256}

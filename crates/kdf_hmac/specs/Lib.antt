@@ -4,11 +4,7 @@ pub mod Prfs
 pub mod Hmac
 -- PBKDF2, and the keys that a header is deciphered with
 pub mod Pbkdf2
--- a derivation that goes by turns
+-- a derivation that goes by steps
 pub mod Derivation
--- what two hashers have taken in of a key, for contracts inside the crate
-pub mod Absorbed
--- how far a derivation is, for contracts inside the crate
-pub mod Progress
--- a derivation over either hash, for contracts inside the crate
-pub mod Works
+-- what contracts inside the crate cite, and callers don't
+pub mod Laws

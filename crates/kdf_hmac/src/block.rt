@@ -1,34 +1,34 @@
-//! One block of PBKDF2, turn by turn (RFC 8018, section 5.2, step 3).
+//! One block of PBKDF2, step by step (RFC 8018, section 5.2, step 3).
 ghost use Rattle.std.specs.Prelude.{◌≡◌, ◌+◌, ◌*◌, ◌<◌, ◌≤◌, List, ℕ, length, replicate, take};
 ghost use Rattle.vc_base.specs.Bytes.{xor_bytes};
-ghost use Rattle.kdf_hmac.specs.Absorbed.{IsKeyed};
+ghost use Rattle.kdf_hmac.specs.Laws.Absorbed.{IsKeyed};
 ghost use Rattle.kdf_hmac.specs.Hmac.{output_length};
 ghost use Rattle.kdf_hmac.specs.Pbkdf2.{t};
-ghost use Rattle.kdf_hmac.specs.Progress.{Filled, Turned, block};
+ghost use Rattle.kdf_hmac.specs.Laws.Progress.{Filled, Stepped, block};
 
 use crate::keyed::Keyed;
 use crate::prf::Hasher;
 
-// A block after some turns: the last U_j, and the exclusive or of U_1 to U_j, each first in its field.
+// A block after some steps: the last U_j, and the XOR of U_1 to U_j, each at the start of its 64 bytes.
 #[derive(Clone, Copy)]
 pub(crate) struct Block {
-    pub(crate) code: [u8; 64],
+    pub(crate) mac: [u8; 64],
     pub(crate) sum: [u8; 64],
 }
 
 impl Block {
-    // A block before its first turn.
+    // A block before its first step.
     pub(crate) fn new() -> Block
-        ensures { result ≡ record { code = replicate 64 0; sum = replicate 64 0 } }
+        ensures { result ≡ record { mac = replicate 64 0; sum = replicate 64 0 } }
     {
         Block {
-            code: [0; 64],
+            mac: [0; 64],
             sum: [0; 64],
         }
     }
 }
 
-// Block `number` after `done` and then `count` more turns, where `block` is the one after `done`. With none
+// Block `number` after `done` and then `count` more steps, where `block` is the one after `done`. With none
 // done, `block` is not read.
 pub(crate) fn block_after<H: Hasher>(
     key: &Keyed<H>,
@@ -40,42 +40,42 @@ pub(crate) fn block_after<H: Hasher>(
 ) -> Block
     requires some { 1 ≤ count }
     ensures { (password : List ℕ) → IsKeyed H.holds H.prf key.now.inner key.now.outer password
-        → (1 ≤ done → Turned H.prf password salt.now number block.code block.sum done)
-        → Turned H.prf password salt.now number result.code result.sum (done + count) }
+        → (1 ≤ done → Stepped H.prf password salt.now number block.mac block.sum done)
+        → Stepped H.prf password salt.now number result.mac result.sum (done + count) }
 {
     if done == 0 {
-        let first = first_turn(key, salt, number);
-        more_turns(key, first, count - 1)
+        let first = first_step(key, salt, number);
+        more_steps(key, first, count - 1)
     } else {
-        more_turns(key, block, count)
+        more_steps(key, block, count)
     }
 }
 
-// Block `number` after its first turn.
-fn first_turn<H: Hasher>(key: &Keyed<H>, salt: &[u8], number: u32) -> Block
+// Block `number` after its first step.
+fn first_step<H: Hasher>(key: &Keyed<H>, salt: &[u8], number: u32) -> Block
     ensures { (password : List ℕ) → IsKeyed H.holds H.prf key.now.inner key.now.outer password
-        → Turned H.prf password salt.now number result.code result.sum 1 }
+        → Stepped H.prf password salt.now number result.mac result.sum 1 }
 {
     let mut inner = key.inner.copied();
     inner.absorb(salt);
     inner.absorb(&number.to_be_bytes());
-    let code = key.finish(inner);
-    Block { code, sum: code }
+    let mac = key.finish(inner);
+    Block { mac, sum: mac }
 }
 
-// The block after `count` more turns.
-fn more_turns<H: Hasher>(key: &Keyed<H>, block: Block, count: u32) -> Block
+// The block after `count` more steps.
+fn more_steps<H: Hasher>(key: &Keyed<H>, block: Block, count: u32) -> Block
     ensures { (password salt : List ℕ) (number done : ℕ) → IsKeyed H.holds H.prf key.now.inner key.now.outer password
-        → Turned H.prf password salt number block.code block.sum done
-        → Turned H.prf password salt number result.code result.sum (done + count) }
+        → Stepped H.prf password salt number block.mac block.sum done
+        → Stepped H.prf password salt number result.mac result.sum (done + count) }
 {
-    let mut code = block.code;
+    let mut mac = block.mac;
     let mut sum = block.sum;
-    'turns: for _done in 0..count {
-        code = key.code(&code[..H::output_length()]);
-        sum = xor(&sum, &code);
+    'steps: for _done in 0..count {
+        mac = key.mac(&mac[..H::output_length()]);
+        sum = xor(&sum, &mac);
     }
-    Block { code, sum }
+    Block { mac, sum }
 }
 
 // Writes T_(i+1) after the first `i` blocks, as far as `out` goes.

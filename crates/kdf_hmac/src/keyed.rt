@@ -1,13 +1,13 @@
 //! HMAC, with the key absorbed once (RFC 2104, section 4).
 ghost use Rattle.std.specs.Prelude.{◌≡◌, ◌++◌, List, ℕ, replicate, take};
 ghost use Rattle.vc_base.specs.Bytes.{xor_bytes};
-ghost use Rattle.kdf_hmac.specs.Absorbed.{IsKeyed};
+ghost use Rattle.kdf_hmac.specs.Laws.Absorbed.{IsKeyed};
 ghost use Rattle.kdf_hmac.specs.Hmac.{block_length, hmac_of, ipad, key_block, output_length, padded};
 
 use crate::prf::{Hasher, Prf};
 use sha2::{Sha256, Sha512};
 
-// A key: two hashers that have taken in its inner and its outer pad.
+// A key: two hashers that have absorbed its inner and its outer pad.
 #[derive(Drop)]
 pub(crate) struct Keyed<H: Hasher> {
     pub(crate) inner: H,
@@ -25,8 +25,8 @@ impl<H: Hasher> Keyed<H> {
         }
     }
 
-    // The code of a text.
-    pub(crate) fn code(&self, text: &[u8]) -> [u8; 64]
+    // The MAC of a text.
+    pub(crate) fn mac(&self, text: &[u8]) -> [u8; 64]
         ensures { (key : List ℕ) → IsKeyed H.holds H.prf self.now.inner self.now.outer key
             → result ≡ padded H.prf (hmac_of H.prf key text.now) }
     {
@@ -35,7 +35,7 @@ impl<H: Hasher> Keyed<H> {
         self.finish(inner)
     }
 
-    // The code of a text that `inner` has taken in after the inner pad.
+    // The MAC of a text that `inner` has absorbed after the inner pad.
     pub(crate) fn finish(&self, inner: H) -> [u8; 64]
         ensures { (key text : List ℕ) → IsKeyed H.holds H.prf self.now.inner self.now.outer key
             → H.holds inner (xor_bytes (key_block H.prf key) (ipad H.prf) ++ text)
@@ -64,7 +64,7 @@ fn key_block<H: Hasher>(key: &[u8]) -> [u8; 128]
     block
 }
 
-// A hasher that has taken in a key's block with each byte changed by `byte`.
+// A hasher that has absorbed a key's block with each byte changed by `byte`.
 fn pad_hasher<H: Hasher>(block: &[u8; 128], byte: u8) -> H
     ensures { let bytes = take (block_length H.prf) block.now in
         H.holds result (xor_bytes bytes (replicate (block_length H.prf) byte)) }
@@ -78,23 +78,23 @@ fn pad_hasher<H: Hasher>(block: &[u8; 128], byte: u8) -> H
     hasher
 }
 
-/// The code of `text` under `key`: its length is answered, 64 or 32, and it stands first in `out`, with
+/// The MAC of `text` under `key`. Returns its length, 64 or 32; the MAC is at the start of `out`, with
 /// zeros after it.
 pub fn hmac(prf: Prf, key: &[u8], text: &[u8], out: &mut [u8; 64]) -> usize
-    ensures code { out.new ≡ padded prf (hmac_of prf key.now text.now) }
+    ensures mac { out.new ≡ padded prf (hmac_of prf key.now text.now) }
     ensures length { result ≡ output_length prf }
 {
     match prf {
-        Prf::Sha512 => write_code::<Sha512>(key, text, out),
-        Prf::Sha256 => write_code::<Sha256>(key, text, out),
+        Prf::Sha512 => write_mac::<Sha512>(key, text, out),
+        Prf::Sha256 => write_mac::<Sha256>(key, text, out),
     }
 }
 
-fn write_code<H: Hasher>(key: &[u8], text: &[u8], out: &mut [u8; 64]) -> usize
-    ensures code { out.new ≡ padded H.prf (hmac_of H.prf key.now text.now) }
+fn write_mac<H: Hasher>(key: &[u8], text: &[u8], out: &mut [u8; 64]) -> usize
+    ensures mac { out.new ≡ padded H.prf (hmac_of H.prf key.now text.now) }
     ensures length { result ≡ output_length H.prf }
 {
     let key = Keyed::<H>::new(key);
-    *out = key.code(text);
+    *out = key.mac(text);
     H::output_length()
 }

@@ -4,8 +4,8 @@ use Rattle.std.specs.Prelude.{IfSome}
 use Rattle.vc_header.specs.declared.fields.Fields.{Fields}
 use Rattle.vc_outside.specs.Told.{Grows, GrowsByFront}
 use Rattle.cascade_set.specs.Volume.{plain_units}
-use Rattle.header_try.specs.declared.kind.Opened.{Opened}
-use Rattle.header_try.specs.Candidates.{candidate_of, IsFirst}
+use Rattle.header_seal.specs.declared.opened.Opened.{Opened}
+use Rattle.header_seal.specs.Candidates.{candidate_of, IsFirst}
 use Rattle.vc_app.specs.declared.cat.Cat.{Cat}
 use Rattle.vc_app.specs.Cat.{asked, asked_of, asked_under, sectors_of, IsInside, IsBeyond}
 use Rattle.vc_app.proofs.Units.{units_same}

@@ -3,8 +3,8 @@ use Rattle.std.proofs.Common.{◌≡◌, ◌⊎◌, inl, ℕ, List, Option, Some
 use Rattle.std.specs.Prelude.{IfSome, IsSome, is_some}
 use Rattle.vc_header.specs.declared.fields.Fields.{Fields}
 use Rattle.vc_outside.specs.Told.{Grows, GrowsByFront}
-use Rattle.header_try.specs.declared.kind.Opened.{Opened}
-use Rattle.header_try.specs.Candidates.{IsFirst}
+use Rattle.header_seal.specs.declared.opened.Opened.{Opened}
+use Rattle.header_seal.specs.Candidates.{IsFirst}
 use Rattle.vc_app.specs.declared.info.Info.{Info}
 use Rattle.vc_app.specs.Info.{shown, text_by, text_in, text_of}
 

@@ -1,10 +1,10 @@
 -- What `cat` is to write: sectors of the plain volume that the first valid candidate opens.
 use Rattle.std.specs.Prelude.{◌≡◌, ◌≤◌, ◌<◌, ℕ, ◌+◌, ◌/◌, List, [], Option, Some, None}
-use Rattle.cascade_set.specs.declared.algorithm.Algorithm.{Algorithm}
-use Rattle.cascade_set.specs.declared.algorithm.Keys.{Keys}
+use Rattle.algorithm_names.specs.declared.algorithm.Algorithm.{Algorithm}
+use Rattle.cascade_set.specs.declared.keys.Keys.{Keys}
 use Rattle.cascade_set.specs.Volume.{plain_sectors}
 use Rattle.vc_header.specs.declared.fields.Fields.{Fields}
-use Rattle.header_try.specs.Candidates.{Candidate, fields_in, first}
+use Rattle.header_seal.specs.Candidates.{Candidate, fields_in, first}
 use Rattle.vc_app.specs.declared.cat.Cat.{Cat}
 
 -- the keys of a volume

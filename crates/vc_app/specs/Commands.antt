@@ -11,8 +11,8 @@
 use Rattle.std.specs.Prelude.{◌≡◌, ◌≤◌, ◌⊎◌, ⊤, ℕ, Bool, true, false, if◌then◌else◌, List, [], ◌∷◌, ◌++◌, codes, Option, Some, None, option_and_then, IfSome, IsSome}
 use Rattle.vc_layout.specs.Layout.{IsContainerLength, IsFormattable}
 use Rattle.vc_outside.specs.Told.{Grows, GrowsByFront}
-use Rattle.header_try.specs.declared.kind.Kind.{Kind}
-use Rattle.header_try.specs.declared.kind.Kind.TheVariants.{Any, StandardOnly, HiddenOnly, AnyBackup, StandardBackup, HiddenBackup}
+use Rattle.vc_layout.specs.declared.kind.Kind.{Kind}
+use Rattle.vc_layout.specs.declared.kind.Kind.TheVariants.{Any, StandardOnly, HiddenOnly, AnyBackup, StandardBackup, HiddenBackup}
 use Rattle.rand_chacha.specs.ChaCha.{of_seed}
 use Rattle.volume_format.specs.Formatted.{formatted}
 use Rattle.cmd_words.specs.Line.{Line, Text, line, format, hide, info, cat, passwd, restore, serve, drill}

@@ -2,10 +2,10 @@
 use Rattle.std.specs.Prelude.{ℕ, List, [], ◌∷◌, ◌++◌, codes, Option, Some, None}
 use Rattle.std.specs.Fmt.{decimal}
 use Rattle.kdf_hmac.specs.Prfs.{prf_name}
-use Rattle.cascade_set.specs.Algorithms.{name_of}
+use Rattle.algorithm_names.specs.Algorithms.{name_of}
 use Rattle.vc_layout.specs.Layout.{slot_name}
-use Rattle.header_try.specs.declared.kind.Opened.{Opened}
-use Rattle.header_try.specs.Candidates.{Candidate, fields_in, first}
+use Rattle.header_seal.specs.declared.opened.Opened.{Opened}
+use Rattle.header_seal.specs.Candidates.{Candidate, fields_in, first}
 use Rattle.vc_app.specs.declared.info.Info.{Info}
 
 -- a name, a space, a value and the line's end

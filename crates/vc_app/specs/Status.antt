@@ -1,7 +1,7 @@
 -- The exit statuses.
 use Rattle.std.specs.Prelude.{ℕ, ⊤}
-use Rattle.header_try.specs.declared.kind.OpenError.{OpenError}
-use Rattle.header_try.specs.declared.kind.OpenError.TheVariants as OpenErrors
+use Rattle.header_try.specs.declared.open_error.OpenError.{OpenError}
+use Rattle.header_try.specs.declared.open_error.OpenError.TheVariants as OpenErrors
 use Rattle.vc_app.specs.declared.status.Status.{Status}
 use Rattle.vc_app.specs.declared.status.Status.TheVariants.{Done, Usage, NoHeader, NoHidden, Length, BadSize, DiskFault, OutFault, NoMemory, ClientCut, ClientMagic, ClientFault}
 

@@ -5,7 +5,7 @@ ghost use Rattle.vc_layout.specs.Layout.{IsContainerLength};
 ghost use Rattle.vc_outside.specs.Told.{Grows, GrowsByFront};
 ghost use Rattle.cascade_set.specs.Volume.{plain_sectors, plain_units};
 ghost use Rattle.vc_header.specs.Header.{Meets};
-ghost use Rattle.header_try.specs.Candidates.{candidate_of};
+ghost use Rattle.header_seal.specs.Candidates.{candidate_of};
 ghost use Rattle.vc_app.specs.Cat.{asked, asked_under, keys_of, opened, IsBeyond, IsInside};
 ghost use Rattle.vc_app.specs.Status.{IsOfCat, IsRefusal, IsWorking, IsWriting, status_of};
 

@@ -3,7 +3,7 @@ ghost use Rattle.std.specs.Prelude.{◌≡◌, ◌≤◌, ◌++◌, ◌⊎◌, �
 ghost use Rattle.vc_base.specs.Faults.{HasCause};
 ghost use Rattle.vc_layout.specs.Layout.{IsContainerLength};
 ghost use Rattle.vc_outside.specs.Told.{Grows, GrowsByFront};
-ghost use Rattle.header_try.specs.Candidates.{candidate_of};
+ghost use Rattle.header_seal.specs.Candidates.{candidate_of};
 ghost use Rattle.vc_app.specs.Info.{shown, text_in, text_line, text_of};
 ghost use Rattle.vc_app.specs.Status.{IsOfInfo, IsOfOutput, IsRefusal, IsWorking};
 

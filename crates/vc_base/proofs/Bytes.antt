@@ -3,7 +3,7 @@
 -- AreBytes xs      each element of xs is below 256: what `IsBytes` says beside the count
 --
 -- All by recursion over the lists: a list of n bytes and its number, below 256^n, are two spellings of one
--- thing, and exclusive or acts on both alike since no byte reaches the next one's bits.
+-- thing, and XOR acts on both alike since no byte reaches the next one's bits.
 use Rattle.std.proofs.Common.{◌≡◌, ◌<◌, ◌≤◌, ℕ, zero, suc, ◌+◌, ◌-◌, ◌*◌, ◌/◌, ◌%◌, ◌^◌, bit_xor, List, [], ◌∷◌, ◌++◌, length, take, drop, slice_index, get_or, refl, sym, ap, ap₂, ◌∙◌, subst, arith, pow-suc, length-append, length-drop, length-take-le}
 use Rattle.std.proofs.lemmas.Nat.{xor_shr, xor_mod}
 use lib.Bits.{xor_comm, xor_lt}
@@ -146,7 +146,7 @@ IsBytes-in_pieces n k f xs some bytes each =
     (λ j inside. each j (piece n j xs) inside
     (IsBytes-piece (n * k) n j xs bytes (piece_of_whole n j k (n * k) refl inside))))
 
--- ---- exclusive or of bytes
+-- ---- XOR of bytes
 
 pub slice_index-xor : (xs ys : List ℕ) (i : ℕ) → length xs ≡ length ys
     → slice_index (xor_bytes xs ys) i ≡ bit_xor (slice_index xs i) (slice_index ys i)

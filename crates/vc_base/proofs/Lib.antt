@@ -1,4 +1,4 @@
--- exclusive or as the sum of polynomials
+-- XOR as the sum of polynomials
 pub mod Xor
 -- the remainder of a polynomial is the one that division leaves
 pub mod Remainders
@@ -12,3 +12,9 @@ pub mod Bytes
 pub mod LongRemainders
 -- integers of 32 and 64 bits and their bytes
 pub mod Words
+-- two functions that agree at each number below a limit, by computing
+pub mod EachNumber
+-- numbers by their bits, and by a test
+pub mod Bits
+-- a list in the chunks that the code takes
+pub mod Chunks

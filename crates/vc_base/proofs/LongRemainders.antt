@@ -2,7 +2,7 @@
 --
 -- doublings n m k r      r times x^k, reduced after each x
 --
--- `remainder` depends on the number alone and is linear. k zeros in front of the coefficients multiply by x^k,
+-- `remainder` depends on the number alone and is linear. k zeros before the coefficients multiply by x^k,
 -- which `doublings` does to the remainder. So a message that grows by k bits, put in at degree n, needs only
 -- the remainder so far.
 use Rattle.std.proofs.Common.{◌≡◌, ◌<◌, ◌≤◌, ℕ, zero, suc, ◌+◌, ◌-◌, ◌*◌, ◌^◌, bit_xor, Bool, false, List, ◌++◌, replicate, refl, sym, ap, ap₂, ◌∙◌, subst, arith, pow-suc, pow-add, zero-add, one-mul, add-one, suc-add, mul_assoc, mul_comm}
@@ -84,7 +84,7 @@ number-zeros zero cs = sym (one-mul (number cs))
 number-zeros (suc k) cs =
     omega (arith, number-zeros k cs, ap (λ (x : ℕ). x * number cs) (pow-suc 2 k))
 
--- k zeros in front of the coefficients
+-- k zeros before the coefficients
 pub remainder-zeros : (n m k : ℕ) (cs : List Bool)
     → remainder n m (replicate k false ++ cs) ≡ doublings n m k (remainder n m cs)
 unfolding remainder doublings

@@ -126,7 +126,7 @@ length-in_pieces_whole n k f xs kept some whole =
     length-in_pieces n f xs kept ∙ ap (λ (x : ℕ). n * x)
     (count_of_pieces n k (length xs) some whole) ∙ sym whole
 
--- piece j of it is what f j makes of piece j
+-- piece j of it is f j of piece j
 pub piece-in_pieces : {X : Type 0} (n j : ℕ) (f : ℕ → List X → List X) (xs : List X)
     → KeepsLength n f → j < length xs / n
     → piece n j (in_pieces n f xs) ≡ f j (piece n j xs)
@@ -174,7 +174,7 @@ in_pieces-in_pieces n f g xs kept some =
     (length xs / n)
     (λ j inside. ap (g j) (piece-in_pieces n j f xs kept inside))
 
--- where g j undoes f j, so does the whole
+-- if each g j undoes f j, so does the whole
 pub in_pieces_undone : {X : Type 0} (n k : ℕ) (f g : ℕ → List X → List X) (xs : List X)
     → KeepsLength n f → 0 < n → length xs ≡ n * k
     → ((j : ℕ) → j < k → g j (f j (piece n j xs)) ≡ piece n j xs)

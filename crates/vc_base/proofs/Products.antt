@@ -100,7 +100,7 @@ term_tested : (a bit term : ℕ) → (bit ≡ 1 → term ≡ a) → (bit ≢ 1 �
     → (if bit == 1 then a else 0) ≡ term
 term_tested a bit term one none = grind (arith, nat_tests)
 
--- that step as code says it: `twice` is r times x, and `term` is a where `(b >> i) & 1 == 1`, else 0
+-- that step as code says it: `twice` is r times x, and `term` is a if `(b >> i) & 1 == 1`, else 0
 pub read_tested : (n m a b i r twice term : ℕ) → IsOfDegree n m → a < 2 ^ n → 0 < i → i ≤ n
     → HasRead n m a b i r
     → twice ≡ reduced n m (2 * r)

@@ -145,7 +145,7 @@ reduced_below n m a degree below = cond_both (nat_lt a (2 ^ n)) a (bit_xor a m) 
     (λ e. ltb-true a (2 ^ n) e)
     (λ e. xor_leading n a m (ltb-false a (2 ^ n) e) below degree.leads degree.below)
 
--- the two cases of `reduced`, on n bits: where a has no x^n, and where it has
+-- the two cases of `reduced`, on n bits: if a has no x^n, and if it has
 pub reduced_low : (n m a : ℕ) → a < 2 ^ n → reduced n m a ≡ a
 reduced_low n m a below = cond-true (nat_lt a (2 ^ n)) a (bit_xor a m) (lt-ltb a (2 ^ n) below)
 

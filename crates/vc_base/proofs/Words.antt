@@ -1,6 +1,6 @@
 -- Integers of 32 and 64 bits, and their bytes.
 --
--- What Rust's `from_le_bytes` and its three companions give, in this crate's words. A list of 4 or 8
+-- What Rust's `from_le_bytes` and its three companions give, in this crate's definitions. A list of 4 or 8
 -- elements is written out, and then both sides compute to one sum.
 use Rattle.std.proofs.Common.{◌≡◌, ℕ, zero, suc, ◌/◌, ◌%◌, ◌^◌, List, [], ◌∷◌, length, reverse, refl, sym, ap, ap₂, ◌∙◌, arith, w32, w64}
 use native.Mathlib.Nat.{div-div-eq-div-mul, pow-suc, div-one}

@@ -1,4 +1,4 @@
--- Exclusive or as the sum of polynomials.
+-- XOR as the sum of polynomials.
 --
 -- Sums commute with x^k, that is, with 2^k. A sum of parts that share no bit is the sum of numbers. Terms
 -- of a sum may change places, and equal ones cancel. The first two are std's lemmas on blocks of bits.

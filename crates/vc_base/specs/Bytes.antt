@@ -1,7 +1,7 @@
 -- Lists of bytes. A byte is a number below 256.
 --
 -- IsBytes n xs       xs are n bytes
--- xor_bytes xs ys    their exclusive or, byte by byte
+-- xor_bytes xs ys    their XOR, byte by byte
 -- from_bytes xs      the number that they spell, the lowest byte first
 -- to_bytes n x       the n lowest bytes of x, the lowest first
 -- piece n j xs       the j-th piece of n elements, from 0
@@ -34,6 +34,6 @@ unfoldable pub joined : {X : Type 0} → (ℕ → List X) → ℕ → List X
 joined f zero = []
 joined f (suc k) = joined f k ++ f k
 
--- What is left past the last whole piece is left out: callers say that the length is a multiple of n.
+-- The rest after the last whole piece is dropped: callers require a multiple of n.
 abbrev pub in_pieces : {X : Type 0} → ℕ → (ℕ → List X → List X) → List X → List X
 in_pieces n f xs = joined (λ j. f j (piece n j xs)) (length xs / n)

@@ -1,7 +1,7 @@
 -- Polynomials over GF(2).
 --
 -- A polynomial is a number whose bit i is the coefficient of x^i, or the list of its coefficients with
--- the constant term first. The sum of two is their exclusive or.
+-- the constant term first. The sum of two is their XOR.
 --
 -- IsOfDegree n m          m has degree n
 -- number cs               the polynomial with the coefficients cs, as a number
@@ -10,7 +10,7 @@
 -- IsRemainder n m a r     r is the remainder of a by m, which has degree n
 -- remainder n m cs        that remainder, of the polynomial with the coefficients cs
 -- product n m a b         the product of a and b, below 2^n, modulo m of degree n: the product of GF(2^n)
---                         where m is irreducible
+--                         if m is irreducible
 use Rattle.std.specs.Prelude.{◌≡◌, ◌<◌, ◌≤◌, ℕ, zero, suc, ◌+◌, ◌*◌, ◌/◌, ◌%◌, ◌^◌, ◌==◌, nat_lt, Bool, if◌then◌else◌, List, [], ◌∷◌, bit_xor}
 
 pub record IsOfDegree (n m : ℕ) : Type 0 where

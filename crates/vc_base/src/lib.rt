@@ -3,7 +3,7 @@
 //! This crate has no code that runs. `specs/Bytes.antt` has lists of bytes cut into pieces,
 //! `specs/Polynomial.antt` polynomials over GF(2) with their products and remainders, and
 //! `specs/Faults.antt` the counts of faults that files and streams keep. The functions below have
-//! no body: each states laws of these definitions. `proofs/` has the lemmas that other crates use.
+//! empty bodies: each states laws of these definitions. `proofs/` has the lemmas that other crates use.
 #![tactic(auto)]
 
 ghost use Rattle.std.specs.Prelude.{◌≡◌, ◌<◌, ℕ, ◌*◌, ◌^◌, Bool, List, length, bit_xor};
@@ -20,7 +20,7 @@ pub fn remainder_is_that_of_division()
 {}
 
 /// The product modulo a polynomial of degree n is the remainder of the product of polynomials. With
-/// exclusive or as the sum, it makes the numbers below 2^n a commutative ring, whose one is 1.
+/// XOR as the sum, it makes the numbers below 2^n a commutative ring, whose one is 1.
 pub fn products_form_a_ring()
     ensures remains { (n m a b : ℕ) → IsOfDegree n m → a < 2 ^ n
         → IsRemainder n m (times a (coefficients n b)) (product n m a b) }
@@ -32,7 +32,7 @@ pub fn products_form_a_ring()
         → product n m a (bit_xor b c) ≡ bit_xor (product n m a b) (product n m a c) }
 {}
 
-/// Lists of n bytes and numbers below 256^n spell each other, and exclusive or acts on both alike.
+/// Lists of n bytes and numbers below 256^n spell each other, and XOR acts on both alike.
 pub fn bytes_spell_numbers()
     ensures read { (n x : ℕ) → x < 256 ^ n → from_bytes (to_bytes n x) ≡ x }
     ensures written { (n : ℕ) (xs : List ℕ) → IsBytes n xs → to_bytes n (from_bytes xs) ≡ xs }

@@ -1,20 +1,21 @@
 //! A sink over a file.
-ghost use Rattle.std.specs.Prelude.{◌≡◌, None, IfOk};
+ghost use Rattle.std.specs.Prelude.{◌≡◌, ◌≤◌, None, length, IfOk, OnErr, OnOk, IsErr, IsErrOf};
+ghost use Rattle.vc_base.specs.Faults.{HasCause};
 
 use crate::stream_sink::StreamSink;
 use std::fs::{File, OpenOptions};
 use std::rt::Files;
 use vc_outside::{Failed, OutError, Sink};
 
-/// A sink over a file. It tells nothing of what it holds.
+/// A sink over a file. Contracts know nothing of what it holds.
 #[derive(Drop)]
 pub struct FileSink {
     stream: StreamSink<File>,
 }
 
 impl FileSink {
-    /// Opens a file to be written from its begin: makes it where it is missing, and empties one that is
-    /// there. Fails where the system does.
+    /// Opens a file to write it from the start. Makes one if it is missing, and empties an existing one.
+    /// Fails if the system does.
     pub fn open<R: Files<File = File>>(rt: &R, path: &str) -> Result<FileSink, Failed>
         ensures { IfOk result (λ s. ⟦<FileSink as Sink>⟧.faults s ≡ 0) }
     {
@@ -41,7 +42,14 @@ impl Sink for FileSink {
         self.stream.faults()
     }
 
-    fn write(&mut self, piece: &[u8]) -> Result<usize, OutError> {
+    /// Each error is a failed call: nothing here runs out of memory.
+    fn write(&mut self, piece: &[u8]) -> Result<usize, OutError>
+        ensures within { IfOk result (λ n. n ≤ length piece.now) }
+        ensures stuck { IfOk result (λ n. n ≡ 0 → length piece.now ≡ 0) }
+        ensures cause { HasCause self.old.stream.faults self.new.stream.faults (IsErr result) }
+        ensures failed { OnErr result (IsErrOf result OutError.Failed) }
+        ensures no_fault { OnOk result (self.new.stream.faults ≡ self.old.stream.faults) }
+    {
         self.stream.write(piece)
     }
 }

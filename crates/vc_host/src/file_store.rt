@@ -1,9 +1,10 @@
 //! A container in a file.
 //!
-//! What a file reads and writes is the system's: this store tells its length and its count of faults,
-//! and nothing of its bytes.
-ghost use Rattle.std.specs.Prelude.{◌≡◌, ◌≤◌, ⊤, false, None, IfOk};
-ghost use Rattle.vc_base.specs.Faults.{Rose};
+//! What a file reads and writes is the system's: contracts know this store's length and count of faults,
+//! and nothing of its contents.
+ghost use Rattle.std.specs.Prelude.{◌≡◌, ◌≤◌, ◌+◌, ⊤, false, None, length, IfOk, OnOk, OnErr, IsErr, IsErrOf};
+ghost use Rattle.std.proofs.lemmas.Bool.{false≢true};
+ghost use Rattle.vc_base.specs.Faults.{HasCause, Rose};
 
 use std::fs::{self, File, OpenFile, OpenOptions};
 use std::io::{self, ErrorKind};
@@ -20,8 +21,8 @@ pub struct FileStore {
 }
 
 impl FileStore {
-    /// Opens a file that is there, to be read and written, or where writing isn't allowed, to be read.
-    /// Fails where there is none, or it is no plain file.
+    /// Opens an existing file to read and write, or only to read if writing isn't allowed. Fails if there
+    /// is none, or if it isn't a regular file.
     pub fn open<R: Files<File = File>>(rt: &R, path: &str) -> Result<FileStore, Failed>
         ensures { IfOk result (λ s. ⟦<FileStore as Store>⟧.faults s ≡ 0) }
     {
@@ -40,8 +41,8 @@ impl FileStore {
         }
     }
 
-    /// Opens a file to be read and written: makes an empty one where it is missing, and leaves one that
-    /// is there as it is. Fails where it is no plain file.
+    /// Opens a file to read and write. Makes an empty one if it is missing, and leaves an existing one as
+    /// it is. Fails if it isn't a regular file.
     pub fn create<R: Files<File = File>>(rt: &R, path: &str) -> Result<FileStore, Failed>
         ensures { IfOk result (λ s. ⟦<FileStore as Store>⟧.faults s ≡ 0) }
     {
@@ -58,7 +59,7 @@ impl FileStore {
         }
     }
 
-    // A store over a file that was opened, where it is a plain one.
+    // A store over an open file, if that is a regular one.
     fn over(file: File) -> Result<FileStore, Failed>
         ensures { IfOk result (λ s. ⟦<FileStore as Store>⟧.faults s ≡ 0) }
     {
@@ -83,7 +84,7 @@ impl FileStore {
     }
 }
 
-// Whether a file was not opened only because it may not be written.
+// Whether a file wasn't opened only because it can't be written.
 fn forbids_writing(kind: ErrorKind) -> bool {
     matches!(
         kind,
@@ -114,21 +115,38 @@ impl Store for FileStore {
         self.faults
     }
 
-    fn read_at(&mut self, at: u64, out: &mut [u8]) -> Result<(), Failed> {
+    fn read_at(&mut self, at: u64, out: &mut [u8]) -> Result<(), Failed>
+        requires { at + length out.old ≤ self.old.len }
+        ensures size { self.new.len ≡ self.old.len }
+        ensures cause { HasCause self.old.faults self.new.faults (IsErr result) }
+        ensures no_fault { OnOk result (self.new.faults ≡ self.old.faults) }
+    {
         match self.file.read_exact_at(out, at) {
             Ok(()) => Ok(()),
             Err(_) => Err(self.failed()),
         }
     }
 
-    fn write_at(&mut self, at: u64, bytes: &[u8]) -> Result<(), Failed> {
+    fn write_at(&mut self, at: u64, bytes: &[u8]) -> Result<(), Failed>
+        requires { at + length bytes.now ≤ self.old.len }
+        ensures size { self.new.len ≡ self.old.len }
+        ensures cause { HasCause self.old.faults self.new.faults (IsErr result) }
+        ensures no_fault { OnOk result (self.new.faults ≡ self.old.faults) }
+    {
         match self.file.write_all_at(bytes, at) {
             Ok(()) => Ok(()),
             Err(_) => Err(self.failed()),
         }
     }
 
-    fn set_len(&mut self, len: u64) -> Result<(), OutError> {
+    /// Each error is a failed call: nothing here runs out of memory.
+    fn set_len(&mut self, len: u64) -> Result<(), OutError>
+        ensures size { OnOk result (self.new.len ≡ len) }
+        ensures same_size { OnErr result (self.new.len ≡ self.old.len) }
+        ensures cause { HasCause self.old.faults self.new.faults (IsErr result) }
+        ensures failed { OnErr result (IsErrOf result OutError.Failed) }
+        ensures no_fault { OnOk result (self.new.faults ≡ self.old.faults) }
+    {
         match self.file.set_len(len) {
             Ok(()) => {
                 self.len = len;
@@ -141,7 +159,11 @@ impl Store for FileStore {
         }
     }
 
-    fn sync(&mut self) -> Result<(), Failed> {
+    fn sync(&mut self) -> Result<(), Failed>
+        ensures size { self.new.len ≡ self.old.len }
+        ensures cause { HasCause self.old.faults self.new.faults (IsErr result) }
+        ensures no_fault { OnOk result (self.new.faults ≡ self.old.faults) }
+    {
         match self.file.sync_all() {
             Ok(()) => Ok(()),
             Err(_) => Err(self.failed()),
@@ -153,4 +175,6 @@ impl Store for FileStore {
     ghost counts_now = { λ _ _ _ _ _ _. tt };
 
     ghost only_now = { λ _ _ _ _. tt };
+
+    ghost image_may_stay = { λ _ modelled. absurd (false≢true modelled) };
 }

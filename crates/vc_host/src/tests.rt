@@ -1,4 +1,4 @@
-//! What no clause says: that the calls reach a real file, and what a stream's answers become.
+//! What no clause says: that the calls reach a real file, and what becomes of a stream's results.
 use super::*;
 use std::fs::{self, File};
 use std::io::{self, ErrorKind, Write};
@@ -12,7 +12,7 @@ enum Change {
     Sync,
 }
 
-// Whether the call was Ok. A write past the end is none.
+// Whether the call returned Ok. A write past the end isn't made.
 fn changes<S: Store>(store: &mut S, change: Change) -> bool {
     match change {
         Change::Write(at, bytes) => {
@@ -26,7 +26,7 @@ fn changes<S: Store>(store: &mut S, change: Change) -> bool {
     }
 }
 
-// Whether the bytes at an offset were read. A read past the end is none.
+// Whether the bytes at an offset were read. A read past the end isn't made.
 fn reads<S: Store>(store: &mut S, at: u64, out: &mut [u8]) -> bool {
     if at > store.len() || store.len() - at < out.len() as u64 {
         return false;
@@ -108,7 +108,7 @@ fn a_file_is_found_again_and_has_a_hole_past_4_gib(rt: HostRuntime) {
 }
 
 #[test]
-fn a_file_takes_output_from_its_begin(rt: HostRuntime) {
+fn a_file_takes_output_from_its_start(rt: HostRuntime) {
     let path = "output.tmp";
     assert!(rt; FileSink::open(&rt, "no folder/output.tmp").is_err());
     for (piece, left) in [(b"longer".as_slice(), 6), (b"new".as_slice(), 3)] {
@@ -126,7 +126,7 @@ fn a_file_takes_output_from_its_begin(rt: HostRuntime) {
     assert!(rt; fs::remove_file(&rt, path).is_ok());
 }
 
-// A writer whose calls answer what the list says, and then take all.
+// A writer whose calls return what the list says, and then take all.
 #[derive(Drop)]
 struct Scripted {
     answers: [Option<ErrorKind>; 4],

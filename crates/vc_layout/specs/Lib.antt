@@ -1,2 +1,4 @@
--- where headers stand
+-- where headers and volumes are
 pub mod Layout
+-- which slots are tried
+pub mod Kinds

@@ -8,7 +8,9 @@
 #![tactic(auto)]
 
 pub use geometry::{Geometry, LONGEST_FORMATTED, outer_of};
+pub use kind::Kind;
 pub use slots::{GROUP, LONGEST, SECTOR, SHORTEST, Slot, is_container_length, slot_at};
 
 pub mod geometry;
+pub mod kind;
 pub mod slots;

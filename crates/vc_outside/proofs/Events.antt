@@ -3,7 +3,8 @@ use Rattle.std.proofs.Common.{◌≡◌, ℕ, ◌+◌, ◌≤◌, zero, suc, Lis
 use Rattle.std.proofs.lemmas.List.{length-replicate}
 use Rattle.vc_outside.specs.Told.{written, SameOutside}
 use Rattle.vc_outside.specs.Crash.{Relength}
-use Rattle.vc_outside.specs.Record.{Event, relengthed, Wrote, Lost, Resized, Synced, after, read_after, Left, Outcome, Fits, IsRecord, torn, picked, crashed}
+use Rattle.vc_outside.specs.Record.{Event, relengthed, Wrote, Lost, Resized, Synced, after, read_after, Left, Outcome, torn, picked, crashed}
+use Rattle.vc_outside.specs.Laws.Invariant.{Fits, IsRecord}
 use Rattle.vc_outside.proofs.Writes.{outside-same, written-outside, resized-outcome, length-resized}
 
 pub read_after-push : (es : List Event) (e : Event) (b : List ℕ) → read_after (es ++ e ∷ []) b ≡ after e (read_after es b)
@@ -30,18 +31,6 @@ pub crashed-push : (p : ℕ) (es : List Event) (e : Event) (b c : List ℕ) → 
 unfolding read_after crashed
 crashed-push p [] e b c = refl
 crashed-push p (f ∷ es) e b c = crashed-push p es e (after f b) (picked p f b c)
-
-Left-shown : (e : Event) (b : List ℕ) (P : List ℕ → Type 0) → P b → Fits e b → Left e b P (after e b)
-Left-shown (Wrote at xs) b P here fits = (b, here, written-outside at xs b fits)
-Left-shown (Lost at xs) b P here fits = (b, here, outside-same at (length xs) b)
-Left-shown (Resized n) b P here fits = (b, here, resized-outcome n b)
-Left-shown Synced b P here fits = refl
-
--- what a read gives is an outcome
-pub Outcome-shown : (es : List Event) (b : List ℕ) (P : List ℕ → Type 0) → P b → IsRecord es b → Outcome es b P (read_after es b)
-unfolding read_after Outcome IsRecord
-Outcome-shown [] b P here sound = here
-Outcome-shown (e ∷ es) b P here sound = Outcome-shown es (after e b) (Left e b P) (Left-shown e b P here sound.0) sound.1
 
 -- with the picks 1 and 2 an outcome is as long as what a read gives
 abbrev pub IsAsLong : ℕ → List ℕ → List ℕ → Type 0
@@ -93,10 +82,10 @@ unfolding read_after IsRecord crashed
 crashed-long p [] b c sound long = long
 crashed-long p (e ∷ es) b c sound long = crashed-long p es (after e b) (picked p e b c) sound.1 (picked-long p e b c sound.0 long)
 
-pub IsRecord-front : (es fs : List Event) (b : List ℕ) → IsRecord (es ++ fs) b → IsRecord es b
+pub IsRecord-prefix : (es fs : List Event) (b : List ℕ) → IsRecord (es ++ fs) b → IsRecord es b
 unfolding IsRecord
-IsRecord-front [] fs b sound = tt
-IsRecord-front (e ∷ es) fs b sound = (sound.0, IsRecord-front es fs (after e b) sound.1)
+IsRecord-prefix [] fs b sound = tt
+IsRecord-prefix (e ∷ es) fs b sound = (sound.0, IsRecord-prefix es fs (after e b) sound.1)
 
 pub IsRecord-last : (es : List Event) (e : Event) (b : List ℕ) → IsRecord (es ++ e ∷ []) b → Fits e (read_after es b)
 unfolding IsRecord read_after

@@ -1,8 +1,8 @@
 pub mod Writes
 pub mod Events
 pub mod Calls
-pub mod Kept
-pub mod Replayed
-pub mod Held
+pub mod RecordGrows
+pub mod CrashIsReplayed
+pub mod ReadIsRecorded
 pub mod Steps
 pub mod Results

@@ -16,7 +16,7 @@ pub weaken : {T E : Type 0} (r : Result T E) (P Q : Type 0) → OnOk r P → (P 
 weaken (Ok x) P Q here f = f here
 weaken (Err e) P Q here f = tt
 
--- what holds after each answer
+-- what holds after each result
 pub each : {T E : Type 0} (r : Result T E) (P Q R : Type 0) → OnOk r P → OnErr r Q → (P → R) → (Q → R) → R
 each (Ok x) P Q R here other f g = f here
 each (Err e) P Q R here other f g = g other

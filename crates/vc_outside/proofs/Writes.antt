@@ -51,7 +51,7 @@ length-resized n b = grind (arith, length-append (take n b) (replicate (n - leng
 pub resized-outcome : (n : ℕ) (b : List ℕ) → Relength n b (resized n b)
 resized-outcome n b = inr (record {
   as_long = length-resized n b;
-  front = same_lists _ _ (grind (arith, length-take (length b) (resized n b), length-take n b, length-resized n b)) (λ k d h. grind (arith, places));
+  prefix = same_lists _ _ (grind (arith, length-take (length b) (resized n b), length-take n b, length-resized n b)) (λ k d h. grind (arith, places));
 })
 
 pub outside-same : (at n : ℕ) (b : List ℕ) → SameOutside at n b b

@@ -1,4 +1,4 @@
--- what stores and sinks tell
+-- what stores and sinks hold
 pub mod Told
 -- what a crash may leave
 pub mod Crash
@@ -8,11 +8,9 @@ pub mod Planned
 pub mod Output
 -- what a store over memory records
 pub mod Record
--- how it keeps them
-pub mod Kept
 -- a store over memory
 pub mod Memory
--- laws of what it records
+-- laws of what it records, and definitions that only private contracts cite
 pub mod Laws
 -- the counts of faults that the contracts here cite
 pub use Rattle.vc_base.specs.Faults

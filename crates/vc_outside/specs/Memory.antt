@@ -1,25 +1,26 @@
 -- A store over memory, as contracts see it, and what its calls do.
 --
 -- shown h               what a read gives
+-- LeftBy es b           what a crash may leave after the events, if the bytes at the start were b
 -- May h, Since h        what a crash now may leave, and what one since an earlier moment might have left
 -- has_room h n          there is place for one more event with n bytes
--- size_of e b           the bytes for which the event takes room, where a read gave b before
+-- size_of e b           the bytes for which the event takes room, if a read gave b before
 -- noted e h             h with one more event
--- stored k at xs b      what the range of a write of xs holds where only the first k bytes are stored
+-- stored k at xs b      what the range of a write of xs holds if only the first k bytes are stored
 -- called e failed m     m after a call that recorded the event, or none, and failed or not
--- turn m                what the plan has for the next call
+-- plan m                what is planned for the next call
 -- write_event at xs m   what a write records, if anything
--- write_goes .. m       whether the call succeeds, where there is memory; and so for the other calls
-use Rattle.std.specs.Prelude.{◌≡◌, ◌≤◌, ◌+◌, ◌-◌, ◌/◌, ◌&&◌, nat_lt, nat_le, ℕ, Bool, true, false, if◌then◌else◌, List, [], ◌∷◌, ◌++◌, Option, Some, None, length, take, slice_range}
-use Rattle.vc_outside.specs.Planned.{counted, goes, turn_of}
-use Rattle.vc_outside.specs.Record.{Event, IsRecord, Lost, Outcome, read_after, Resized, Synced, Wrote}
+-- write_goes .. m       whether the call succeeds, if there is memory; the same for the other calls
+use Rattle.std.specs.Prelude.{◌≡◌, ◌≤◌, ◌+◌, ◌-◌, ◌/◌, ◌&&◌, ◌⊎◌, nat_lt, nat_le, ℕ, Bool, true, false, List, [], ◌∷◌, ◌++◌, Option, Some, None, length, take, slice_range}
+use Rattle.vc_outside.specs.Planned.{counted, counted_if, goes, plan_of}
+use Rattle.vc_outside.specs.Record.{Event, Lost, Outcome, read_after, Resized, Synced, Wrote}
 use Rattle.vc_outside.specs.Told.{written}
-use Rattle.vc_outside.specs.declared.planned.Turn.{Turn}
-use Rattle.vc_outside.specs.declared.planned.Turn.TheVariants.{Goes, Fails, Stops, Stopped}
+use Rattle.vc_outside.specs.declared.planned.CallPlan.{CallPlan}
+use Rattle.vc_outside.specs.declared.planned.CallPlan.TheVariants.{Goes, Fails, Stops, Stopped}
 
 -- the bytes and their record
 pub record Held : Type 0 where
-  -- the bytes at the begin
+  -- the bytes at the start
   pub first : List ℕ
   -- what was recorded since
   pub events : List Event
@@ -39,12 +40,16 @@ pub record Memory : Type 0 where
 abbrev pub shown : Held → List ℕ
 shown h = read_after h.events h.first
 
+-- What a read gives may stay. Everything else that may be left is an outcome of the events.
+abbrev pub LeftBy : List Event → List ℕ → List ℕ → Type 0
+LeftBy es b c = (c ≡ read_after es b) ⊎ Outcome es b (λ d. d ≡ b) c
+
 abbrev pub May : Held → List ℕ → Type 0
-May h c = Outcome h.events h.first (λ d. d ≡ h.first) c
+May h c = LeftBy h.events h.first c
 
 -- The moments are the numbers of events.
 abbrev pub Since : Held → ℕ → List ℕ → Type 0
-Since h t c = (k : ℕ) × (t ≤ k) × (k ≤ length h.events) × Outcome (take k h.events) h.first (λ d. d ≡ h.first) c
+Since h t c = (k : ℕ) × (t ≤ k) × (k ≤ length h.events) × LeftBy (take k h.events) h.first c
 
 abbrev pub has_room : Held → ℕ → Bool
 has_room h n = nat_lt 0 h.places && nat_le n h.room
@@ -69,44 +74,39 @@ called e failed m = record {
   next = counted m.next;
   fails = m.fails;
   stop = m.stop;
-  faults = if failed then counted m.faults else m.faults;
+  faults = counted_if failed m.faults;
 }
 
 abbrev pub stored : ℕ → ℕ → List ℕ → List ℕ → List ℕ
 stored k at xs b = slice_range (written at (take k xs) b) at (at + length xs)
 
 -- A failed write stores half of its bytes, and the one at which the store stops is lost.
-abbrev pub write_by : Bool → Turn → ℕ → List ℕ → List ℕ → Option Event
-write_by false turn at xs b = None
+abbrev pub write_by : Bool → CallPlan → ℕ → List ℕ → List ℕ → Option Event
+write_by false plan at xs b = None
 write_by true Goes at xs b = Some (Wrote at xs)
 write_by true Fails at xs b = Some (Wrote at (stored (length xs / 2) at xs b))
 write_by true Stops at xs b = Some (Lost at xs)
 write_by true Stopped at xs b = None
 
--- A call goes where there is place for it and the plan lets it.
-abbrev pub goes_by : Bool → Turn → Bool
-goes_by place turn = place && goes turn
+-- A call succeeds if there is place for it and the plan lets it.
+abbrev pub goes_by : Bool → CallPlan → Bool
+goes_by place plan = place && goes plan
 
-abbrev pub turn : Memory → Turn
-turn m = turn_of m.next m.fails m.stop
+abbrev pub plan : Memory → CallPlan
+plan m = plan_of m.next m.fails m.stop
 
 abbrev pub write_event : ℕ → List ℕ → Memory → Option Event
-write_event at xs m = write_by (has_room m.held (length xs)) (turn m) at xs (shown m.held)
+write_event at xs m = write_by (has_room m.held (length xs)) (plan m) at xs (shown m.held)
 
 abbrev pub write_goes : List ℕ → Memory → Bool
-write_goes xs m = goes_by (has_room m.held (length xs)) (turn m)
+write_goes xs m = goes_by (has_room m.held (length xs)) (plan m)
 
 abbrev pub length_goes : ℕ → Memory → Bool
-length_goes n m = goes_by (has_room m.held (length (shown m.held) - n)) (turn m)
+length_goes n m = goes_by (has_room m.held (length (shown m.held) - n)) (plan m)
 
 abbrev pub sync_goes : Memory → Bool
-sync_goes m = goes_by (has_room m.held 0) (turn m)
+sync_goes m = goes_by (has_room m.held 0) (plan m)
 
 -- A read is not recorded, and needs no place.
 abbrev pub read_goes : Memory → Bool
-read_goes m = goes (turn m)
-
--- What is held stands for the bytes: they are what a read gives, and each event fits.
-pub record IsHeld (first : List ℕ) (events : List Event) (bytes : List ℕ) : Type 0 where
-  pub shows : bytes ≡ read_after events first
-  pub sound : IsRecord events first
+read_goes m = goes (plan m)

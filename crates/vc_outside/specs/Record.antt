@@ -1,17 +1,15 @@
 -- What a store over memory records, and what a crash may leave of it.
 --
 -- An event is a write, a lost write, a change of the length, or a sync. A lost write is one at which the
--- store stops: no read gives its bytes, but a crash may leave them. The events stand in their order.
+-- store stops: no read gives its bytes, but a crash may leave them. The events are in their order.
 --
--- after e b             what a read gives after the event, where it gave b before
+-- after e b             what a read gives after the event, if it gave b before
 -- read_after es b       the same, after all of the events
--- Left e b P            the outcomes after the event, where P are those before and a read gave b
+-- Left e b P            the outcomes after the event, if P are those before and a read gave b
 -- Outcome es b P        the same, after all of the events
--- Fits e b              the event's range lies within b
--- IsRecord es b         each event fits what a read gave before it
 -- picked p e b c        of the outcome c before the event, the one that the pick p takes after it
 -- crashed p es b c      the same, after all of the events
-use Rattle.std.specs.Prelude.{◌≡◌, ◌≤◌, ℕ, zero, suc, ◌+◌, List, [], ◌∷◌, length, replicate, ⊤}
+use Rattle.std.specs.Prelude.{◌≡◌, ℕ, zero, suc, List, [], ◌∷◌, length, replicate}
 use Rattle.vc_outside.specs.Told.{written, resized, SameOutside}
 use Rattle.vc_outside.specs.Crash.{Relength}
 
@@ -41,16 +39,6 @@ Left Synced b P c = c ≡ b
 unfoldable pub Outcome : List Event → List ℕ → (List ℕ → Type 0) → List ℕ → Type 0
 Outcome [] b P c = P c
 Outcome (e ∷ es) b P c = Outcome es (after e b) (Left e b P) c
-
-abbrev pub Fits : Event → List ℕ → Type 0
-Fits (Wrote at xs) b = at + length xs ≤ length b
-Fits (Lost at xs) b = at + length xs ≤ length b
-Fits (Resized n) b = ⊤
-Fits Synced b = ⊤
-
-unfoldable pub IsRecord : List Event → List ℕ → Type 0
-IsRecord [] b = ⊤
-IsRecord (e ∷ es) b = Fits e b × IsRecord es (after e b)
 
 -- Pick 0 takes the old bytes, 1 the new ones and 2 bytes a5; pick 0 the old length, 1 and 2 the new one.
 abbrev pub torn : ℕ → ℕ → List ℕ → List ℕ → List ℕ

@@ -1,12 +1,12 @@
--- What an object of the outside may tell of its bytes. An object in memory tells them, a file does not:
--- its meaning is then None, and a clause on bytes says nothing.
+-- What contracts know of the bytes of stores and sinks. Those over memory have known contents. A file's are
+-- unknown: they are None, and a clause on bytes says nothing.
 --
--- Both old new P          P holds of what is told before and after; what is told stays told
--- written at xs old       old with the bytes xs written at the place `at`
--- SameOutside at n        only the n bytes from the place `at` may differ
+-- Both old new P          P holds of the contents before and after if they are known; known contents stay known
+-- written at xs old       old with the bytes xs written at the offset `at`
+-- SameOutside at n        only the n bytes from the offset `at` on may differ
 -- resized n old           the first n bytes of old, and zeros after its end
 -- Grows old new xs        xs were added at the end
--- GrowsByFront old new xs  a front of xs was added at the end
+-- GrowsByFront old new xs  a prefix of xs was added at the end
 use Rattle.std.specs.Prelude.{◌≡◌, ℕ, ◌+◌, ◌-◌, List, ◌++◌, length, take, drop, replicate, Option, Some, None, ⊤}
 
 abbrev pub Both : {A : Type 0} → Option A → Option A → (A → A → Type 0) → Type 0

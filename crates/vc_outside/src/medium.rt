@@ -1,6 +1,7 @@
-//! The bytes of a store over memory, with the record of what was done to them. It has no faults.
+//! The bytes of a store over memory, with the record of what was done to them. Nothing fails here.
 ghost use Rattle.std.specs.Prelude.{◌≡◌, ◌≤◌, ◌<◌, ◌+◌, ◌-◌, [], IsTrue, IfOk, OnOk, OnErr, length, slice_range};
-ghost use Rattle.vc_outside.specs.Memory.{has_room, noted, shown, stored, Held, IsHeld, May};
+ghost use Rattle.vc_outside.specs.Memory.{has_room, noted, shown, stored, Held, May};
+ghost use Rattle.vc_outside.specs.Laws.Invariant.{IsHeld};
 ghost use Rattle.vc_outside.specs.Record.{crashed, Lost, Resized, Synced, Wrote};
 
 use crate::record::Record;
@@ -26,7 +27,7 @@ impl Model for Medium {
 }
 
 impl Medium {
-    // These bytes, with place for so many events and bytes.
+    // These bytes, with room for `places` events and `room` bytes.
     pub(crate) fn new(
         alloc: Global,
         bytes: Vec<u8>,
@@ -104,12 +105,5 @@ impl Medium {
         ensures may_leave { IfOk result (λ v. May self.now v.items) }
     {
         self.log.crash(self.alloc, &self.first, pick)
-    }
-
-    // Does nothing; its clause is that what a read gives is one of the images that a crash may leave.
-    pub(crate) fn may_stay(&self)
-        ensures { May self.now (shown self.now) }
-    {
-        let _ = &self.bytes;
     }
 }

@@ -2,7 +2,7 @@
 ghost use Rattle.std.specs.Prelude.{◌≡◌, ◌≤◌, ◌<◌, ◌+◌, ◌↔◌, [], ℕ, List, Option, Some, length, take, if◌then◌else◌, is_ok, IfOk, OnOk, OnErr, IsErrOf, IsTrue};
 ghost use Rattle.vc_base.specs.Faults.{HasCause, Rose};
 ghost use Rattle.vc_outside.specs.Output.{Output};
-ghost use Rattle.vc_outside.specs.Planned.{counted, is_listed};
+ghost use Rattle.vc_outside.specs.Planned.{counted, counted_if, is_listed};
 ghost use Rattle.vc_outside.specs.Told.{Grows};
 
 use crate::planned::fails_at;
@@ -10,8 +10,8 @@ use crate::sink::{OutError, Sink};
 use std::alloc::Global;
 use std::marker::Model;
 
-/// A sink over memory that fails where it is told to. Its calls of `write` are numbered from 0, those
-/// of an empty piece too. Contracts see it as an `Output`.
+/// A sink over memory whose calls fail as planned. Its calls of `write` are numbered from 0, including
+/// those of an empty piece. Contracts see it as an `Output`.
 #[derive(Drop)]
 pub struct MemSink {
     bytes: Vec<u8>,
@@ -56,13 +56,15 @@ impl Sink for MemSink {
         self.faults
     }
 
-    /// Takes the whole piece, and fails exactly where the call's number is listed.
+    /// Takes the whole piece, and fails if and only if the call's number is listed.
     fn write(&mut self, piece: &[u8]) -> Result<usize, OutError>
         ensures within { IfOk result (λ n. n ≤ length piece.now) }
         ensures taken { IfOk result (λ n. Grows (Some self.old.contents) (Some self.new.contents) (take n piece.now)) }
         ensures stuck { IfOk result (λ n. n ≡ 0 → 0 < length piece.now → Rose self.old.faults self.new.faults) }
         ensures refused { OnErr result (Some self.new.contents ≡ Some self.old.contents) }
         ensures cause { HasCause self.old.faults self.new.faults (IsErrOf result OutError.Failed) }
+        ensures out_of_memory { IsErrOf result OutError.NoMemory → self.new.faults ≡ self.old.faults }
+        ensures faults { self.new.faults ≡ counted_if (is_listed self.old.next self.old.fails) self.old.faults }
         ensures whole { IfOk result (λ n. n ≡ length piece.now) }
         ensures failed { IsErrOf result OutError.Failed ↔ IsTrue (is_listed self.old.next self.old.fails) }
         ensures next { self.new.next ≡ counted self.old.next }

@@ -1,4 +1,4 @@
-//! A store over memory with planned faults, which tells what a crash may leave.
+//! A store over memory with planned faults, which models what a crash may leave.
 //!
 //! Its calls of `read_at`, `write_at`, `set_len` and `sync` are numbered from 0, in one count:
 //!
@@ -6,11 +6,13 @@
 //! a call whose number is listed    fails; a write first stores the first half of its bytes
 //! the call with the number `stop`  fails; a crash may leave what it was to write
 //! each call after that             fails, and changes nothing
-//! a call with too little place     fails, and changes nothing
+//! a call with too little room      fails, and changes nothing
 //! ```
 //!
-//! It records what it does in a place of a fixed size, so that none of its calls takes memory for that.
+//! It records what it does in room of a fixed size, so that none of its calls takes memory for that.
 ghost use Rattle.std.specs.Prelude.{◌≡◌, ◌≤◌, ◌<◌, ◌+◌, ◌-◌, ◌^◌, ◌↔◌, [], ℕ, List, Option, Some, None, Bool, true, false, not, is_ok, is_err, length, slice_range, IfOk, IfSome, OnOk, OnErr, IsErr, IsErrOf, IsTrue, refl};
+ghost use Rattle.std.proofs.Common.{inl};
+ghost use Rattle.vc_base.specs.Bytes.{IsBytes};
 ghost use Rattle.vc_base.specs.Faults.{HasCause};
 ghost use Rattle.vc_outside.specs.Crash.{IsLasting, Outcomes, Relength, Stays};
 ghost use Rattle.vc_outside.specs.Laws.Moments.{counts_now, only_now};
@@ -19,17 +21,17 @@ ghost use Rattle.vc_outside.specs.Record.{crashed, Resized, Synced};
 ghost use Rattle.vc_outside.specs.Told.{Both, resized, SameOutside, written};
 
 use crate::medium::Medium;
-use crate::planned::{Plan, Turn};
+use crate::planned::{CallPlan, Plan};
 use crate::sink::OutError;
-use crate::store::{Failed, Store};
+use crate::store::{Failed, Store, bytes_are_known};
 use std::alloc::Global;
 use std::marker::Model;
 
-/// Memory ran out.
+/// Out of memory.
 #[derive(Clone, Copy, Debug, PartialEq, Eq)]
 pub struct NoMemory;
 
-/// A store over memory that fails where it is told to. Contracts see it as a `Memory`.
+/// A store over memory whose calls fail as planned. Contracts see it as a `Memory`.
 #[derive(Drop)]
 pub struct MemStore {
     medium: Medium,
@@ -43,8 +45,8 @@ impl Model for MemStore {
 }
 
 impl MemStore {
-    /// A store of these bytes, all of which a crash leaves. The calls with the numbers `fails` fail, and
-    /// from the number `stop` on all do. There is place to record `calls` calls, with `room` bytes that
+    /// A store of these bytes, which a crash leaves as they are. The calls with the numbers `fails` fail,
+    /// and from the number `stop` on all do. There is room to record `calls` calls, and `room` bytes that
     /// are written or cut off.
     pub fn new(
         alloc: Global,
@@ -54,13 +56,14 @@ impl MemStore {
         calls: usize,
         room: usize,
     ) -> Result<MemStore, NoMemory>
-        ensures { IfOk result (λ s. s ≡ record {
+        ensures made { IfOk result (λ s. s ≡ record {
           held = record { first = bytes.items; events = []; places = calls; room = room };
           next = 0;
           fails = fails.items;
           stop = stop;
           faults = 0;
         }) }
+        ensures lasting { IfOk result (λ s. IsLasting true (⟦<MemStore as Store>⟧.image s) (⟦<MemStore as Store>⟧.may_leave s)) }
     {
         match Medium::new(alloc, bytes, calls, room) {
             Ok(medium) => Ok(MemStore {
@@ -78,13 +81,14 @@ impl MemStore {
         self.medium.bytes()
     }
 
-    /// The image that a crash now leaves in which each range that was written since the last sync holds
-    /// its old bytes (0), its new bytes (1) or bytes a5 (2), and which has the old length (0) or the new
-    /// one (1 and 2).
+    /// An image that a crash now may leave. Each range that was written since the last sync holds its old
+    /// bytes (pick 0), its new bytes (1) or bytes a5 (2), and the length is the old one (0) or the new one
+    /// (1 and 2).
     pub fn after_crash(&self, pick: u8) -> Result<Vec<u8>, NoMemory>
         requires { pick < 3 }
         ensures exactly { IfOk result (λ v. v.items ≡ crashed pick self.now.held.events self.now.held.first self.now.held.first) }
         ensures may_leave { IfOk result (λ v. ⟦<MemStore as Store>⟧.may_leave self.now v.items) }
+        ensures lasting { IsLasting true (Some (shown self.now.held)) (May self.now.held) → IfOk result (λ v. v.items ≡ shown self.now.held) }
     {
         match self.medium.crash(pick) {
             Ok(image) => Ok(image),
@@ -113,24 +117,24 @@ impl MemStore {
         ensures goes { is_ok result ≡ write_goes bytes.now self.old }
         ensures later { self.old.faults ≤ self.new.faults }
     {
-        let turn = self.plan.turn();
+        let plan = self.plan.next_call();
         if !self.medium.has_room(bytes.len()) {
             return Err(self.plan.fault());
         }
-        match turn {
-            Turn::Goes => {
+        match plan {
+            CallPlan::Goes => {
                 self.medium.write(at, bytes, bytes.len());
                 Ok(())
             }
-            Turn::Fails => {
+            CallPlan::Fails => {
                 self.medium.write(at, bytes, bytes.len() / 2);
                 Err(self.plan.fault())
             }
-            Turn::Stops => {
+            CallPlan::Stops => {
                 self.medium.lose(at, bytes);
                 Err(self.plan.fault())
             }
-            Turn::Stopped => Err(self.plan.fault()),
+            CallPlan::Stopped => Err(self.plan.fault()),
         }
     }
 
@@ -158,10 +162,8 @@ impl MemStore {
         ensures ok { OnOk result (self.new ≡ called (Some Synced) false self.old) }
         ensures failed { OnErr result (self.new ≡ called None true self.old) }
         ensures goes { is_ok result ≡ sync_goes self.old }
-        ensures shown { May self.old.held (shown self.old.held) }
         ensures later { self.old.faults ≤ self.new.faults }
     {
-        self.medium.may_stay();
         let goes = self.plan.goes();
         if !self.medium.has_room(0) || !goes {
             return Err(self.plan.fault());
@@ -187,6 +189,7 @@ impl Store for MemStore {
     ghost left_since = { λ s t c. Since s.held t c };
 
     fn len(&self) -> u64 {
+        bytes_are_known(self.medium.bytes());
         self.medium.bytes().len() as u64
     }
 
@@ -216,10 +219,13 @@ impl Store for MemStore {
         ensures crash { Outcomes true (length self.old.held.events) (length self.new.held.events) (Since self.old.held)
             (Since self.new.held) (May self.old.held) (May self.new.held) (SameOutside at (length bytes.now)) }
         ensures cause { HasCause self.old.faults self.new.faults (IsErr result) }
+        ensures bytes { IfSome (Some (shown self.new.held)) (IsBytes (length (shown self.new.held))) }
         ensures called { self.new ≡ called (write_event at bytes.now self.old) (is_err result) self.old }
         ensures goes { is_ok result ≡ write_goes bytes.now self.old }
     {
-        self.write_by_plan(at, bytes)
+        let result = self.write_by_plan(at, bytes);
+        bytes_are_known(self.medium.bytes());
+        result
     }
 
     fn set_len(&mut self, len: u64) -> Result<(), OutError>
@@ -230,6 +236,7 @@ impl Store for MemStore {
         ensures crash { Outcomes true (length self.old.held.events) (length self.new.held.events) (Since self.old.held)
             (Since self.new.held) (May self.old.held) (May self.new.held) (Relength len) }
         ensures cause { HasCause self.old.faults self.new.faults (IsErrOf result OutError.Failed) }
+        ensures out_of_memory { IsErrOf result OutError.NoMemory → self.new.faults ≡ self.old.faults }
         ensures ok { OnOk result (self.new ≡ called (Some (Resized len)) false self.old) }
         ensures failed { IsErrOf result OutError.Failed → self.new ≡ called None true self.old }
         ensures no_memory { IsErrOf result OutError.NoMemory → self.new ≡ called None false self.old }
@@ -258,6 +265,8 @@ impl Store for MemStore {
     ghost counts_now = { λ _ s t c le now. counts_now s.held c t le now };
 
     ghost only_now = { λ _ s c left. only_now s.held c left };
+
+    ghost image_may_stay = { λ _ _. inl refl };
 }
 
 #[cfg(test)]

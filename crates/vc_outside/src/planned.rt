@@ -1,6 +1,6 @@
-//! Faults that are planned: which calls of an object fail.
+//! Planned faults: which calls of an object fail.
 ghost use Rattle.std.specs.Prelude.{◌≡◌, ◌≤◌};
-ghost use Rattle.vc_outside.specs.Planned.{counted, goes, is_listed, turn_of};
+ghost use Rattle.vc_outside.specs.Planned.{counted, goes, is_listed, plan_of};
 
 use crate::store::Failed;
 
@@ -11,9 +11,9 @@ pub(crate) fn fails_at(number: u64, fails: &[u64]) -> bool
     fails.contains(&number)
 }
 
-// What is planned for a call: it goes, it fails, the object stops at it, or has stopped before.
+// What is planned for a call: it succeeds, it fails, the object stops at it, or has stopped before.
 #[derive(Clone, Copy)]
-pub(crate) enum Turn {
+pub(crate) enum CallPlan {
     Goes,
     Fails,
     Stops,
@@ -41,18 +41,18 @@ impl Plan {
         }
     }
 
-    // Numbers a call, and says what is planned for it.
-    pub(crate) fn turn(&mut self) -> Turn
-        ensures turn { result ≡ turn_of self.old.next self.old.fails.items self.old.stop }
+    // Numbers a call, and returns what is planned for it.
+    pub(crate) fn next_call(&mut self) -> CallPlan
+        ensures planned { result ≡ plan_of self.old.next self.old.fails.items self.old.stop }
         ensures next { self.new ≡ record self.old { next = counted self.old.next } }
     {
         let number = self.next;
         self.next = number.saturating_add(1);
         match self.stop {
-            Some(stop) if number == stop => Turn::Stops,
-            Some(stop) if number > stop => Turn::Stopped,
-            _ if fails_at(number, &self.fails) => Turn::Fails,
-            _ => Turn::Goes,
+            Some(stop) if number == stop => CallPlan::Stops,
+            Some(stop) if number > stop => CallPlan::Stopped,
+            _ if fails_at(number, &self.fails) => CallPlan::Fails,
+            _ => CallPlan::Goes,
         }
     }
 
@@ -65,16 +65,16 @@ impl Plan {
         Failed
     }
 
-    // The same, for a call that goes or does nothing.
+    // The same for a call that succeeds or else does nothing.
     pub(crate) fn goes(&mut self) -> bool
-        ensures goes { result ≡ goes (turn_of self.old.next self.old.fails.items self.old.stop) }
+        ensures goes { result ≡ goes (plan_of self.old.next self.old.fails.items self.old.stop) }
         ensures next { self.new ≡ record self.old { next = counted self.old.next } }
     {
-        match self.turn() {
-            Turn::Goes => true,
-            Turn::Fails => false,
-            Turn::Stops => false,
-            Turn::Stopped => false,
+        match self.next_call() {
+            CallPlan::Goes => true,
+            CallPlan::Fails => false,
+            CallPlan::Stops => false,
+            CallPlan::Stopped => false,
         }
     }
 }

@@ -1,20 +1,21 @@
-//! What a store over memory has recorded since its begin.
+//! What a store over memory has recorded since its start.
 //!
-//! The place for it is taken at first, so that to record takes no memory:
+//! The room for it is taken at the start, so that recording takes no memory:
 //!
 //! ```text
-//! calls   Write 0, 3   Sync   Write 7, 2   ..          as many as there is place for
+//! calls   Write 0, 3   Sync   Write 7, 2   ..          as many as there is room for
 //! bytes   a b c               d e          ..          the bytes of the writes, one after the other
 //! ```
 ghost use Rattle.std.specs.Prelude.{◌≡◌, ◌<◌, ◌≤◌, ◌-◌, [], length, IfOk, OnOk, vec_capacity, vec_len};
-ghost use Rattle.vc_outside.specs.Kept.{added, event_of, events_of, has_place, EndsBy, IsKept, Log};
-ghost use Rattle.vc_outside.specs.Record.{crashed, IsRecord, Lost, Resized, Synced, Wrote};
+ghost use Rattle.vc_outside.specs.Laws.Log.{added, event_of, events_of, has_place, EndsBy, IsKept, Log};
+ghost use Rattle.vc_outside.specs.Record.{crashed, Lost, Resized, Synced, Wrote};
+ghost use Rattle.vc_outside.specs.Laws.Invariant.{IsRecord};
 
 use crate::replay::replay;
 use std::alloc::{AllocError, Global};
 use std::marker::Model;
 
-// A call that is recorded. `from` and `len` say where its bytes are.
+// A recorded call. `from` and `len` say where its bytes are.
 #[derive(Clone, Copy)]
 pub(crate) enum Call {
     Write { at: u64, from: usize, len: usize },
@@ -23,7 +24,7 @@ pub(crate) enum Call {
     Sync,
 }
 
-// A record, with place for more. Contracts see it as a `Log`.
+// A record, with room for more. Contracts see it as a `Log`.
 #[derive(Drop)]
 pub(crate) struct Record {
     calls: Vec<Call>,
@@ -44,7 +45,7 @@ impl Model for Record {
 }
 
 impl Record {
-    // Place for this many events and bytes.
+    // Room for this many events and bytes.
     pub(crate) fn new(alloc: Global, places: usize, room: usize) -> Result<Record, AllocError>
         ensures { IfOk result (λ r. r ≡ record { events = []; places = places; room = room }) }
     {
@@ -55,7 +56,7 @@ impl Record {
         })
     }
 
-    // Whether there is place for one more event with `n` bytes.
+    // Whether there is room for one more event with `n` bytes.
     pub(crate) fn has_place(&self, n: usize) -> bool
         ensures { result ≡ has_place self.now n }
     {
@@ -70,7 +71,7 @@ impl Record {
         let (from, len) = (self.bytes.len(), piece.len());
         self.room -= len;
         self.calls.push_reserved(Call::Write { at, from, len });
-        // There is place for it.
+        // There is room for it.
         let _ = self.bytes.extend_from_slice(piece);
     }
 
@@ -102,7 +103,7 @@ impl Record {
         self.calls.push_reserved(Call::Sync);
     }
 
-    // What a crash now leaves with this pick, over the bytes at the begin.
+    // What a crash now leaves with this pick, over the bytes at the start.
     pub(crate) fn crash(&self, alloc: Global, first: &[u8], pick: u8) -> Result<Vec<u8>, AllocError>
         requires { IsRecord self.now.events first.now }
         ensures { IfOk result (λ v. v.items ≡ crashed pick self.now.events first.now first.now) }

@@ -1,7 +1,8 @@
 //! What events leave of an image, by the pick of a crash: 0 the old bytes, 1 the new ones, 2 bytes a5.
 ghost use Rattle.std.specs.Prelude.{◌≡◌, ◌+◌, ◌<◌, ◌≤◌, length, OnOk};
-ghost use Rattle.vc_outside.specs.Kept.{event_of, EndsBy};
-ghost use Rattle.vc_outside.specs.Record.{after, picked, relengthed, torn, Fits};
+ghost use Rattle.vc_outside.specs.Laws.Log.{event_of, EndsBy};
+ghost use Rattle.vc_outside.specs.Record.{after, picked, relengthed, torn};
+ghost use Rattle.vc_outside.specs.Laws.Invariant.{Fits};
 ghost use Rattle.vc_outside.specs.Told.{written};
 
 use crate::record::Call;

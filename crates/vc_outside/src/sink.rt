@@ -6,18 +6,18 @@ ghost use Rattle.vc_outside.specs.Told.{Grows};
 use std::alloc::Global;
 use std::marker::Model;
 
-/// Why output was not taken.
+/// Why output wasn't taken.
 #[derive(Clone, Copy, Debug, PartialEq, Eq)]
 pub enum OutError {
     /// The call failed, and the count of faults rose.
     Failed,
-    /// Memory ran out.
+    /// Out of memory. The count of faults is as before.
     NoMemory,
 }
 
 /// What takes output, piece by piece.
 pub trait Sink {
-    // What it holds, where it tells that.
+    // What it holds, if its contents are known.
     ghost contents: { Self → Option (List ℕ) };
 
     // The count of failed calls.
@@ -27,14 +27,15 @@ pub trait Sink {
     fn faults(&self) -> u64
         ensures { result ≡ faults self.now };
 
-    /// Takes a front of the piece, and answers its length. To take nothing of a piece that is not empty
+    /// Takes a prefix of the piece and returns its length. To take nothing of a piece that isn't empty
     /// counts as a fault.
     fn write(&mut self, piece: &[u8]) -> Result<usize, OutError>
         ensures within { IfOk result (λ n. n ≤ length piece.now) }
         ensures taken { IfOk result (λ n. Grows (contents self.old) (contents self.new) (take n piece.now)) }
         ensures stuck { IfOk result (λ n. n ≡ 0 → 0 < length piece.now → Rose (faults self.old) (faults self.new)) }
         ensures refused { OnErr result (contents self.new ≡ contents self.old) }
-        ensures cause { HasCause (faults self.old) (faults self.new) (IsErrOf result OutError.Failed) };
+        ensures cause { HasCause (faults self.old) (faults self.new) (IsErrOf result OutError.Failed) }
+        ensures out_of_memory { IsErrOf result OutError.NoMemory → faults self.new ≡ faults self.old };
 }
 
 /// A sink over memory that never fails. Contracts see it as the list of the bytes that it holds.
@@ -88,7 +89,7 @@ impl Sink for SureSink {
 mod tests {
     use super::*;
 
-    // That memory is had, which no clause says.
+    // That there is memory, which no clause says.
     #[test]
     fn a_piece_is_taken_whole(rt: HostRuntime) {
         let mut sink = SureSink::new(rt.alloc());

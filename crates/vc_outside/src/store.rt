@@ -1,7 +1,9 @@
 //! What reads and writes a container.
 ghost use Rattle.std.specs.Prelude.{◌≡◌, ◌≤◌, ◌<◌, ◌+◌, ◌^◌, ℕ, List, Option, Some, length, slice_range, IfSome, OnOk, OnErr, IsErr, IsErrOf, Bool, true, false, ⊤, refl};
 ghost use Rattle.vc_base.specs.Faults.{HasCause};
-ghost use Rattle.vc_outside.specs.Crash.{IsLasting, Outcomes, Relength, Stays};
+ghost use Rattle.std.proofs.lemmas.Bool.{false≢true};
+ghost use Rattle.vc_base.specs.Bytes.{IsBytes};
+ghost use Rattle.vc_outside.specs.Crash.{IsLasting, MayStay, Outcomes, Relength, Stays};
 ghost use Rattle.vc_outside.specs.Told.{Both, resized, SameOutside, written};
 
 use crate::sink::OutError;
@@ -11,10 +13,10 @@ use std::marker::Model;
 #[derive(Clone, Copy, Debug, PartialEq, Eq)]
 pub struct Failed;
 
-/// A container's bytes. A store that tells its bytes tells the image; each store tells its length and
-/// its count of faults.
+/// A container's bytes. Contracts know each store's length and count of faults, and the contents of those
+/// stores that model them: one over memory does, a file doesn't.
 pub trait Store {
-    // The bytes, where the store tells them.
+    // The bytes, if the store's contents are known.
     ghost image: { Self → Option (List ℕ) };
 
     // The number of bytes.
@@ -23,13 +25,13 @@ pub trait Store {
     // The count of failed calls.
     ghost faults: { Self → ℕ };
 
-    // Whether the store tells what a crash may leave.
+    // Whether the store models what a crash may leave.
     ghost tells: { Bool };
 
     // What a crash at this moment may leave.
     ghost may_leave: { Self → List ℕ → Type 0 };
 
-    // The moment, as a number that does not fall.
+    // The moment, as a number that doesn't fall.
     ghost moment: { Self → ℕ };
 
     // What a crash at some moment from that one on might have left, during a call or between two.
@@ -37,13 +39,14 @@ pub trait Store {
 
     /// The length in bytes.
     fn len(&self) -> u64
-        ensures { result ≡ size self.now };
+        ensures len { result ≡ size self.now }
+        ensures bytes { IfSome (image self.now) (IsBytes (size self.now)) };
 
     /// The count of failed calls, which never falls and stays at its last value once that is reached.
     fn faults(&self) -> u64
         ensures { result ≡ faults self.now };
 
-    /// Reads the bytes from the offset `at` on until `out` is full. Where it fails, `out` holds any bytes.
+    /// Reads the bytes from the offset `at` on until `out` is full. If it fails, `out` holds any bytes.
     fn read_at(&mut self, at: u64, out: &mut [u8]) -> Result<(), Failed>
         requires { at + length out.old ≤ size self.old }
         ensures read { OnOk result (IfSome (image self.old) (λ b. out.new ≡ slice_range b at (at + length out.old))) }
@@ -53,7 +56,7 @@ pub trait Store {
             (may_leave self.old) (may_leave self.new) Stays }
         ensures cause { HasCause (faults self.old) (faults self.new) (IsErr result) };
 
-    /// Writes the bytes at the offset `at`. Where it fails, its own range holds any bytes.
+    /// Writes the bytes at the offset `at`. If it fails, its own range holds any bytes.
     fn write_at(&mut self, at: u64, bytes: &[u8]) -> Result<(), Failed>
         requires { at + length bytes.now ≤ size self.old }
         ensures written { OnOk result (Both (image self.old) (image self.new) (λ b c. c ≡ written at bytes.now b)) }
@@ -61,7 +64,8 @@ pub trait Store {
         ensures size { size self.new ≡ size self.old }
         ensures crash { Outcomes tells (moment self.old) (moment self.new) (left_since self.old) (left_since self.new)
             (may_leave self.old) (may_leave self.new) (SameOutside at (length bytes.now)) }
-        ensures cause { HasCause (faults self.old) (faults self.new) (IsErr result) };
+        ensures cause { HasCause (faults self.old) (faults self.new) (IsErr result) }
+        ensures bytes { IfSome (image self.new) (IsBytes (size self.new)) };
 
     /// Cuts the container after `len` bytes, or lengthens it with zeros.
     fn set_len(&mut self, len: u64) -> Result<(), OutError>
@@ -71,9 +75,10 @@ pub trait Store {
         ensures same_size { OnErr result (size self.new ≡ size self.old) }
         ensures crash { Outcomes tells (moment self.old) (moment self.new) (left_since self.old) (left_since self.new)
             (may_leave self.old) (may_leave self.new) (Relength len) }
-        ensures cause { HasCause (faults self.old) (faults self.new) (IsErrOf result OutError.Failed) };
+        ensures cause { HasCause (faults self.old) (faults self.new) (IsErrOf result OutError.Failed) }
+        ensures out_of_memory { IsErrOf result OutError.NoMemory → faults self.new ≡ faults self.old };
 
-    /// Makes what was written last: after it a crash leaves what a read gives.
+    /// Makes all writes lasting: from then on a crash leaves what a read gives.
     fn sync(&mut self) -> Result<(), Failed>
         ensures lasting { OnOk result (IsLasting tells (image self.new) (may_leave self.new)) }
         ensures image { image self.new ≡ image self.old }
@@ -82,14 +87,24 @@ pub trait Store {
             (may_leave self.old) (may_leave self.new) Stays }
         ensures cause { HasCause (faults self.old) (faults self.new) (IsErr result) };
 
-    // What is told has the length that is told.
+    // The image has the store's length.
     ghost image_is_whole: { (s : Self) → IfSome (image s) (λ b. length b ≡ size s) };
 
     // This moment is one of those since an earlier one.
     ghost counts_now: { tells ≡ true → (s : Self) (t : ℕ) (c : List ℕ) → t ≤ moment s → may_leave s c → left_since s t c };
 
-    // Since this moment there is no other.
+    // No later moment has come yet.
     ghost only_now: { tells ≡ true → (s : Self) (c : List ℕ) → left_since s (moment s) c → may_leave s c };
+
+    // A crash always leaves something, and it may be the image.
+    ghost image_may_stay: { (s : Self) → MayStay tells (image s) (may_leave s) };
+}
+
+// Each byte is below 256. It does nothing: a caller's proof needs the fact.
+pub(crate) fn bytes_are_known(bytes: &[u8])
+    ensures { IsBytes (length bytes.now) bytes.now }
+{
+    let _ = bytes;
 }
 
 /// A store over memory that never fails. Contracts see it as the list of its bytes.
@@ -136,6 +151,7 @@ impl Store for SureStore {
     ghost left_since = { λ _ _ _. ⊤ };
 
     fn len(&self) -> u64 {
+        bytes_are_known(&self.bytes);
         self.bytes.len() as u64
     }
 
@@ -152,6 +168,7 @@ impl Store for SureStore {
     fn write_at(&mut self, at: u64, bytes: &[u8]) -> Result<(), Failed> {
         let from = at as usize;
         self.bytes[from..from + bytes.len()].copy_from_slice(bytes);
+        bytes_are_known(&self.bytes);
         Ok(())
     }
 
@@ -171,13 +188,15 @@ impl Store for SureStore {
     ghost counts_now = { λ _ _ _ _ _ _. tt };
 
     ghost only_now = { λ _ _ _ _. tt };
+
+    ghost image_may_stay = { λ _ modelled. absurd (false≢true modelled) };
 }
 
 #[cfg(test)]
 mod tests {
     use super::*;
 
-    // That memory is had, which no clause says.
+    // That there is memory, which no clause says.
     #[test]
     fn an_empty_store_is_lengthened_with_zeros(rt: HostRuntime) {
         let mut store = SureStore::new(Vec::new(rt.alloc()));

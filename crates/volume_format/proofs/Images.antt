@@ -9,14 +9,25 @@ use Rattle.vc_outside.specs.Told.{written}
 use Rattle.vc_layout.specs.Layout.{IsFormattable}
 use Rattle.vc_layout.specs.declared.slots.Slot.TheVariants.{Standard, BackupStandard}
 use Rattle.vc_header.specs.declared.fields.Fields.{Fields}
-use Rattle.header_try.specs.Candidates.{header_at}
+use Rattle.kdf_hmac.specs.Pbkdf2.{derived}
+use Rattle.vc_header.specs.Header.{body_of}
+use Rattle.header_seal.specs.Sealed.{header_at, HeadersOpenAgain, OpensAgain, plain_by}
 use Rattle.volume_format.specs.Stream.{stream_bytes}
-use Rattle.volume_format.specs.Formatted.{body_under, formatted, material_of, outer_fields, with_body, Carries}
-use Rattle.volume_format.specs.Readable.{IsReadable}
+use Rattle.volume_format.specs.Formatted.{body_under, formatted, material_of, outer_fields, with_body, HasHeader}
 use Rattle.volume_format.specs.declared.outer.FormatSpec.{FormatSpec}
-use Rattle.volume_format.proofs.Bodies.{read_again}
 use Rattle.volume_format.proofs.Draws.{length-stream, stream-part}
 use Rattle.volume_format.proofs.Writes.{length-written, take_through, drop_behind, part_before}
+
+-- what was sealed under this salt opens again
+abbrev pub IsReadable : FormatSpec → List ℕ → Fields → Type 0
+IsReadable spec salt fields = OpensAgain spec.algorithm (derived spec.prf spec.password spec.pim salt) fields
+
+read_again : HeadersOpenAgain → (spec : FormatSpec) (salt header : List ℕ) (fields : Fields) → length salt ≡ 64
+    → header ≡ salt ++ body_under spec salt fields → IsReadable spec salt fields
+    → plain_by spec.prf spec.algorithm spec.password spec.pim header ≡ body_of fields
+read_again law spec salt header fields long is readable =
+    ap (plain_by spec.prf spec.algorithm spec.password spec.pim) is
+    ∙ law spec.prf spec.algorithm spec.password spec.pim salt fields long readable
 
 -- a body behind the salt at a place: the header there
 header_written : (at : ℕ) (body b : List ℕ) → length body ≡ 448 → at + 512 ≤ length b
@@ -124,16 +135,16 @@ module _ (g : ChaCha) (spec : FormatSpec) (f : Fields) (fits : IsFormattable spe
           ∙ ap (λ (s : List ℕ). written (backup + 64) (body_under spec s f) with_one)
           (take-take 64 512 (drop backup with_one) (omega arith) ∙ second_salt long)
 
-  pub carries : IsReadable spec (stream_bytes g 0 64) f
-      → IsReadable spec (stream_bytes g backup 64) f → Carries with_both Standard spec f
-  carries r q =
-      read_again spec (stream_bytes g 0 64) (header_at Standard with_both) f
+  pub carries : HeadersOpenAgain → IsReadable spec (stream_bytes g 0 64) f
+      → IsReadable spec (stream_bytes g backup 64) f → HasHeader with_both Standard spec f
+  carries law r q =
+      read_again law spec (stream_bytes g 0 64) (header_at Standard with_both) f
       (length-stream g 0 64 refl) (header_is r.as_long q.as_long) r
 
-  pub backup_carries : IsReadable spec (stream_bytes g 0 64) f
+  pub backup_carries : HeadersOpenAgain → IsReadable spec (stream_bytes g 0 64) f
       → IsReadable spec (stream_bytes g backup 64) f
-      → Carries with_both BackupStandard spec f
-  backup_carries r q =
-      read_again spec (stream_bytes g backup 64) (header_at BackupStandard with_both) f
+      → HasHeader with_both BackupStandard spec f
+  backup_carries law r q =
+      read_again law spec (stream_bytes g backup 64) (header_at BackupStandard with_both) f
       (length-stream g backup 64 refl)
       (backup_is r.as_long q.as_long) q

@@ -4,8 +4,6 @@ mod Draws
 mod Writes
 -- the fill, part by part
 mod Parts
--- a header's body, enciphered and deciphered again
-mod Bodies
 -- the image of a formatted container
 mod Images
 -- opening a formatted container

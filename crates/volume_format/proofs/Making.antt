@@ -1,5 +1,5 @@
 -- Formatting: from what each step made of the image to what the image is in the end.
-use Rattle.std.proofs.Common.{◌≡◌, ℕ, ◌+◌, ◌-◌, ◌≤◌, List, ◌++◌, length, replicate, Option, Some, None, refl, sym, ap, ap₂, ◌∙◌, subst, arith}
+use Rattle.std.proofs.Common.{◌≡◌, ℕ, ◌+◌, ◌-◌, ◌≤◌, List, ◌++◌, length, replicate, Option, Some, None, true, refl, sym, ap, ap₂, ◌∙◌, subst, arith}
 use Rattle.vc_base.specs.Faults.{HasCause, Rose}
 use Rattle.rand_chacha.specs.ChaCha.{ChaCha}
 use Rattle.vc_outside.specs.Told.{Both, written}
@@ -8,14 +8,13 @@ use Rattle.vc_layout.specs.declared.slots.Slot.{Slot}
 use Rattle.vc_layout.specs.declared.slots.Slot.TheVariants.{Standard, BackupStandard}
 use Rattle.vc_header.specs.Header.{body_of, fields_of, is_valid, Meets, Valid}
 use Rattle.vc_header.specs.declared.fields.Fields.{Fields}
-use Rattle.header_try.specs.Candidates.{header_at, plain_by}
+use Rattle.header_seal.specs.Sealed.{header_at, HeadersOpenAgain, plain_by}
 use Rattle.volume_format.specs.Stream.{advanced, stream_bytes}
-use Rattle.volume_format.specs.Formatted.{body_under, key_bytes, material_of, outer_fields, Carries}
+use Rattle.volume_format.specs.Formatted.{body_under, key_bytes, material_of, outer_fields, HasHeader}
 use Rattle.volume_format.specs.Opens.{fields_from, HasValid, IsFormatted}
-use Rattle.volume_format.specs.Readable.{IsReadable}
 use Rattle.volume_format.specs.declared.outer.FormatSpec.{FormatSpec}
 use Rattle.volume_format.proofs.Draws.{stream_advanced}
-use Rattle.volume_format.proofs.Images.{backup_body, backup_carries, body, carries, formatted_is, length-both, with_both, with_one}
+use Rattle.volume_format.proofs.Images.{backup_body, backup_carries, body, carries, formatted_is, IsReadable, length-both, with_both, with_one}
 use Rattle.volume_format.proofs.Opening.{opens}
 
 -- ---- fields
@@ -63,7 +62,7 @@ fields_are g h spec m f moved material fields =
 -- ---- the image
 
 valid_in : (spec : FormatSpec) (slot : Slot) (f : Fields) (image : List ℕ) (len : ℕ)
-    → Carries image slot spec f → len ≡ length image
+    → HasHeader image slot spec f → len ≡ length image
     → Valid (body_of f) slot len → HasValid spec slot image
 valid_in spec slot f image len carried long valid =
     let plain : List ℕ = plain_by spec.prf spec.algorithm spec.password spec.pim
@@ -71,17 +70,22 @@ valid_in spec slot f image len carried long valid =
     subst (λ (n : ℕ). Valid plain slot n) long
     (subst (λ (b : List ℕ). Valid b slot len) (sym carried) valid)
 
+-- a valid body passes the test
+abbrev IsDecided : Type 0
+IsDecided = (body : List ℕ) (slot : Slot) (len : ℕ)
+    → (is_valid body slot len ≡ true → Valid body slot len) × (Valid body slot len → is_valid body slot len ≡ true)
+
 -- with both headers it is all that is said of it
-pub image_is : (g : ChaCha) (spec : FormatSpec) (f : Fields) (fits : IsFormattable spec.size)
+pub image_is : HeadersOpenAgain → IsDecided → (g : ChaCha) (spec : FormatSpec) (f : Fields) (fits : IsFormattable spec.size)
     → f ≡ fields_from g spec
     → IsReadable spec (stream_bytes g 0 64) f → IsReadable spec
     (stream_bytes g (spec.size - 131072) 64) f
     → IsFormatted g spec (with_both g spec f fits)
-image_is g spec f fits fields r q =
+image_is law decided g spec f fits fields r q =
     let image : List ℕ = with_both g spec f fits in
     let long : spec.size ≡ length image = sym (length-both g spec f fits r.as_long q.as_long) in
-    let carried : Carries image Standard spec f = carries g spec f fits r q in
-    let backup_carried : Carries image BackupStandard spec f = backup_carries g spec f fits r q in
+    let carried : HasHeader image Standard spec f = carries g spec f fits law r q in
+    let backup_carried : HasHeader image BackupStandard spec f = backup_carries g spec f fits law r q in
     let m : Meets f Standard spec.size = subst (λ (f : Fields). Meets f Standard spec.size)
     (sym fields) (meets spec (material_of g spec) fits) in
     let m' : Meets f BackupStandard spec.size
@@ -96,7 +100,7 @@ image_is g spec f fits fields r q =
           (r.valid BackupStandard spec.size m');
       opens = opens spec (fields_from g spec) image
           (ap₂ (λ (b : List ℕ) (n : ℕ). is_valid b Standard n) carried (sym long)
-          ∙ r.passes Standard spec.size m)
+          ∙ (decided (body_of f) Standard spec.size).1 (r.valid Standard spec.size m))
           (ap fields_of carried ∙ r.again ∙ fields);
     }
 
@@ -112,21 +116,21 @@ abbrev WritesBody : ℕ → FormatSpec → List ℕ → Fields → Option (List 
 WritesBody at spec salt f old new = Both old new (λ b c. c ≡ written at (body_under spec salt f) b)
 
 -- step by step, where the store tells its bytes
-pub made : (i₀ i₁ i₂ i₃ : Option (List ℕ)) (g : ChaCha) (spec : FormatSpec) (f : Fields)
+pub made : HeadersOpenAgain → IsDecided → (i₀ i₁ i₂ i₃ : Option (List ℕ)) (g : ChaCha) (spec : FormatSpec) (f : Fields)
     (fits : IsFormattable spec.size) (s s' : List ℕ)
     → s ≡ stream_bytes g 0 64 → s' ≡ stream_bytes g (spec.size - 131072) 64
     → f ≡ fields_from g spec → IsReadable spec s f → IsReadable spec s' f
     → Both i₀ i₁ (λ _ b. b ≡ stream_bytes g 0 spec.size)
     → WritesBody 64 spec s f i₁ i₂ → WritesBody (spec.size - 131072 + 64) spec s' f i₂ i₃
     → Both i₀ i₃ (λ _ b. IsFormatted g spec b)
-made i₀ i₁ i₂ i₃ g spec f fits s s' salt salt' fields r q filled one both =
+made law decided i₀ i₁ i₂ i₃ g spec f fits s s' salt salt' fields r q filled one both =
     in_turn i₀ i₁ i₂ i₃ filled
     (subst (λ (x : List ℕ). WritesBody 64 spec x f i₁ i₂) salt one)
     (subst (λ (x : List ℕ). WritesBody (spec.size - 131072 + 64) spec x f i₂ i₃) salt' both)
   where
     whole : IsFormatted g spec (with_both g spec f fits)
     whole =
-        image_is g spec f fits fields
+        image_is law decided g spec f fits fields
         (subst (λ (x : List ℕ). IsReadable spec x f) salt r)
         (subst (λ (x : List ℕ). IsReadable spec x f) salt' q)
 

@@ -6,13 +6,13 @@ use Rattle.std.proofs.Common.{◌≡◌, ◌<◌, ◌≤◌, ◌⊎◌, inl, inr
 use Rattle.std.specs.Prelude.{find, slice_get, unwrap_or, if◌then◌else◌}
 use Rattle.kdf_hmac.specs.declared.prf.Prf.{Prf}
 use Rattle.kdf_hmac.specs.declared.prf.Prf.TheVariants.{Sha512, Sha256}
-use Rattle.cascade_set.specs.Algorithms.{number_of}
-use Rattle.cascade_set.specs.declared.algorithm.Algorithm.{Algorithm}
-use Rattle.cascade_set.specs.declared.algorithm.Algorithm.TheVariants.{Aes, Serpent, Twofish, AesTwofish, AesTwofishSerpent, SerpentAes, SerpentTwofishAes, TwofishSerpent}
+use Rattle.algorithm_names.specs.Algorithms.{number_of}
+use Rattle.algorithm_names.specs.declared.algorithm.Algorithm.{Algorithm}
+use Rattle.algorithm_names.specs.declared.algorithm.Algorithm.TheVariants.{Aes, Serpent, Twofish, AesTwofish, AesTwofishSerpent, SerpentAes, SerpentTwofishAes, TwofishSerpent}
 use Rattle.vc_layout.specs.declared.slots.Slot.TheVariants.{Standard}
 use Rattle.vc_header.specs.declared.fields.Fields.{Fields}
-use Rattle.header_try.specs.declared.kind.Kind.TheVariants.{StandardOnly}
-use Rattle.header_try.specs.Candidates.{Candidate, candidates, fields_in, first, is_valid_in}
+use Rattle.vc_layout.specs.declared.kind.Kind.TheVariants.{StandardOnly}
+use Rattle.header_seal.specs.Candidates.{Candidate, candidates, fields_in, first, is_valid_in}
 use Rattle.volume_format.specs.Opens.{asked, order_of, prf_order, Opens}
 use Rattle.volume_format.specs.declared.outer.FormatSpec.{FormatSpec}
 

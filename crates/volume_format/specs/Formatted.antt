@@ -5,19 +5,15 @@
 --
 -- outer_fields spec material    the fields of both headers
 -- formatted g spec              the image that formatting makes, from the random stream of g
--- Carries image slot spec f     the slot's body deciphers, under the spec's password, PIM, PRF and algorithm,
---                               to the body that is written for the fields f
-use Rattle.std.specs.Prelude.{◌≡◌, ℕ, ◌+◌, ◌-◌, ◌*◌, List, ◌++◌, length, replicate}
-use Rattle.kdf_hmac.specs.Pbkdf2.{derived}
-use Rattle.cascade_set.specs.Algorithms.{ciphers_of}
-use Rattle.cascade_set.specs.Cascade.{enciphered}
+-- HasHeader image slot spec f   the slot carries the fields f, under what the spec names
+use Rattle.std.specs.Prelude.{ℕ, ◌+◌, ◌-◌, ◌*◌, List, ◌++◌, length, replicate}
+use Rattle.algorithm_names.specs.Algorithms.{ciphers_of}
 use Rattle.vc_layout.specs.Layout.{place_of}
 use Rattle.vc_layout.specs.declared.slots.Slot.{Slot}
 use Rattle.vc_layout.specs.declared.slots.Slot.TheVariants.{Standard, BackupStandard}
-use Rattle.vc_header.specs.Header.{body_of}
 use Rattle.vc_header.specs.declared.fields.Fields.{Fields}
 use Rattle.vc_outside.specs.Told.{written}
-use Rattle.header_try.specs.Candidates.{header_at, plain_by, salt_of}
+use Rattle.header_seal.specs.Sealed.{Carries, header_at, salt_of, sealed_by}
 use Rattle.rand_chacha.specs.ChaCha.{ChaCha}
 use Rattle.volume_format.specs.Stream.{stream_bytes}
 use Rattle.volume_format.specs.declared.outer.FormatSpec.{FormatSpec}
@@ -43,9 +39,7 @@ outer_fields spec material = record {
 
 -- the body of a header with this salt, enciphered
 abbrev pub body_under : FormatSpec → List ℕ → Fields → List ℕ
-body_under spec salt fields =
-    enciphered (record { algorithm = spec.algorithm; material = derived spec.prf spec.password spec.pim salt }) 0
-    (body_of fields)
+body_under spec salt fields = sealed_by spec.prf spec.algorithm spec.password spec.pim salt fields
 
 -- the image with the body of a slot's header written behind its salt
 abbrev pub with_body : FormatSpec → Fields → Slot → List ℕ → List ℕ
@@ -57,6 +51,5 @@ formatted g spec =
     let fields = outer_fields spec (material_of g spec) in
     with_body spec fields BackupStandard (with_body spec fields Standard (stream_bytes g 0 spec.size))
 
-abbrev pub Carries : List ℕ → Slot → FormatSpec → Fields → Type 0
-Carries image slot spec fields =
-    plain_by spec.prf spec.algorithm spec.password spec.pim (header_at slot image) ≡ body_of fields
+abbrev pub HasHeader : List ℕ → Slot → FormatSpec → Fields → Type 0
+HasHeader image slot spec fields = Carries image slot spec.password spec.pim spec.prf spec.algorithm fields

@@ -8,24 +8,22 @@
 --                             f, but where a candidate before it is valid by chance
 -- IsFormatted g spec image    all that is said of the image that formatting makes from the stream
 --                             of g
-use Rattle.std.specs.Prelude.{◌≡◌, ◌<◌, ◌⊎◌, ℕ, ◌+◌, ◌*◌, List, length, Some}
+use Rattle.std.specs.Prelude.{◌≡◌, ◌<◌, ◌⊎◌, ℕ, ◌+◌, ◌*◌, List, Some}
 use Rattle.kdf_hmac.specs.declared.prf.Prf.{Prf}
 use Rattle.kdf_hmac.specs.declared.prf.Prf.TheVariants.{Sha512, Sha256}
-use Rattle.cascade_set.specs.Algorithms.{number_of}
+use Rattle.algorithm_names.specs.Algorithms.{number_of}
 use Rattle.vc_layout.specs.declared.slots.Slot.{Slot}
 use Rattle.vc_layout.specs.declared.slots.Slot.TheVariants.{Standard, BackupStandard}
-use Rattle.vc_header.specs.Header.{Valid}
 use Rattle.vc_header.specs.declared.fields.Fields.{Fields}
-use Rattle.header_try.specs.declared.kind.Kind.TheVariants.{StandardOnly}
-use Rattle.header_try.specs.Candidates.{Candidate, fields_in, first, header_at, plain_by}
+use Rattle.vc_layout.specs.declared.kind.Kind.TheVariants.{StandardOnly}
+use Rattle.header_seal.specs.Candidates.{Candidate, fields_in, first, IsValidIn}
 use Rattle.rand_chacha.specs.ChaCha.{ChaCha}
-use Rattle.volume_format.specs.Formatted.{Carries, formatted, material_of, outer_fields}
+use Rattle.volume_format.specs.Formatted.{formatted, HasHeader, material_of, outer_fields}
 use Rattle.volume_format.specs.declared.outer.FormatSpec.{FormatSpec}
 
 abbrev pub HasValid : FormatSpec → Slot → List ℕ → Type 0
 HasValid spec slot image =
-    Valid (plain_by spec.prf spec.algorithm spec.password spec.pim (header_at slot image)) slot
-    (length image)
+    IsValidIn (record { slot = slot; prf = spec.prf; algorithm = spec.algorithm }) image spec.password spec.pim
 
 abbrev pub asked : FormatSpec → Candidate
 asked spec = record { slot = Standard; prf = spec.prf; algorithm = spec.algorithm }
@@ -52,8 +50,8 @@ fields_from g spec = outer_fields spec (material_of g spec)
 
 pub record IsFormatted (g : ChaCha) (spec : FormatSpec) (image : List ℕ) : Type 0 where
   pub is : image ≡ formatted g spec
-  pub standard : Carries image Standard spec (fields_from g spec)
-  pub backup : Carries image BackupStandard spec (fields_from g spec)
+  pub standard : HasHeader image Standard spec (fields_from g spec)
+  pub backup : HasHeader image BackupStandard spec (fields_from g spec)
   pub valid : HasValid spec Standard image
   pub backup_valid : HasValid spec BackupStandard image
   pub opens : Opens spec (fields_from g spec) image

@@ -1,9 +1,9 @@
 //! What is drawn from the random stream: bytes in order, salts out of order, and the master keys.
 ghost use Rattle.std.specs.Prelude.{◌≡◌, ◌-◌, ◌*◌, ◌%◌, ◌++◌, length, replicate};
-ghost use Rattle.cascade_set.specs.Algorithms.{ciphers_of};
+ghost use Rattle.algorithm_names.specs.Algorithms.{ciphers_of};
 ghost use Rattle.volume_format.specs.Stream.{advanced, stream_bytes};
 
-use cascade_set::Algorithm;
+use algorithm_names::Algorithm;
 use rand_chacha::ChaCha20Rng;
 use rand_core::utils::fill_bytes_via_u32;
 use vc_header::{MATERIAL, SALT};

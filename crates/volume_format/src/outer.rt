@@ -7,15 +7,17 @@ ghost use Rattle.vc_header.specs.Header.{Meets};
 ghost use Rattle.vc_outside.specs.Crash.{IsLasting};
 ghost use Rattle.vc_outside.specs.Told.{Both};
 ghost use Rattle.volume_format.specs.Stream.{advanced};
-ghost use Rattle.volume_format.specs.Formatted.{Carries, formatted, key_bytes, material_of, outer_fields};
+ghost use Rattle.volume_format.specs.Formatted.{formatted, HasHeader, key_bytes, material_of, outer_fields};
 ghost use Rattle.volume_format.specs.Opens.{HasValid, IsFormatted, Opens};
 
 use crate::draw::{key_material, salt_at};
 use crate::fill::fill;
 use crate::header::{outer_fields, write_header};
-use cascade_set::Algorithm;
+use algorithm_names::Algorithm;
+use header_seal::headers_open_again;
 use kdf_hmac::{Password, Prf};
 use rand_chacha::ChaCha20Rng;
+use vc_header::validity_is_decided;
 use vc_layout::{Slot, outer_of, slot_at};
 use vc_outside::{Failed, OutError, Store};
 
@@ -58,9 +60,9 @@ pub fn format_outer<D: Store>(
 
     // Both headers open it.
     ensures standard { OnOk result (Both (D.image disk.old) (D.image disk.new) (λ _ b.
-        Carries b Standard spec.now (outer_fields spec.now (material_of rng.old spec.now)))) }
+        HasHeader b Standard spec.now (outer_fields spec.now (material_of rng.old spec.now)))) }
     ensures backup { OnOk result (Both (D.image disk.old) (D.image disk.new) (λ _ b.
-        Carries b BackupStandard spec.now (outer_fields spec.now (material_of rng.old spec.now)))) }
+        HasHeader b BackupStandard spec.now (outer_fields spec.now (material_of rng.old spec.now)))) }
     ensures valid { OnOk result (Both (D.image disk.old) (D.image disk.new) (λ _ b.
         HasValid spec.now Standard b)) }
     ensures valid_backup { OnOk result (Both (D.image disk.old) (D.image disk.new) (λ _ b.
@@ -127,6 +129,8 @@ fn write_volume<D: Store>(
     ensures drawn { OnOk result (rng.new ≡ advanced rng.old (spec.now.size + key_bytes spec.now)) }
     ensures cause { HasCause (D.faults disk.old) (D.faults disk.new) (IsErr result) }
 {
+    headers_open_again();
+    validity_is_decided();
     let salt = salt_at(rng, slot_at(Slot::Standard, spec.size));
     let backup_salt = salt_at(rng, slot_at(Slot::BackupStandard, spec.size));
     fill(disk, rng, spec.size)?;

@@ -2,8 +2,7 @@
 ghost use Rattle.std.specs.Prelude.{◌≡◌};
 
 use crate::{FormatError, FormatSpec, format_outer};
-use cascade_set::Algorithm;
-use header_try::{Kind, open_plain};
+use algorithm_names::Algorithm;
 use kdf_hmac::{Password, Prf};
 use rand_chacha::ChaCha20Rng;
 use rand_core::SeedableRng;
@@ -49,7 +48,7 @@ fn an_image_of_1_mib_is_that_of_another_program(rt: HostRuntime) {
 }
 
 #[test]
-fn the_shortest_image_is_that_of_another_program_and_opens(rt: HostRuntime) {
+fn the_shortest_image_is_that_of_another_program(rt: HostRuntime) {
     let want = [
         0x0f, 0x10, 0xa4, 0x1f, 0x25, 0x36, 0x30, 0x06, 0xd7, 0xed, 0x90, 0x96, 0x27, 0x3d, 0xbe,
         0x7a, 0x8a, 0x2f, 0x77, 0xb0, 0x18, 0x89, 0x5f, 0x6c, 0xe8, 0x51, 0x13, 0xec, 0x13, 0x76,
@@ -60,8 +59,6 @@ fn the_shortest_image_is_that_of_another_program_and_opens(rt: HostRuntime) {
     let asked = spec(&rt, 262_656);
     assert_eq!(rt; format_outer(&mut disk, &mut rng, &asked), Ok(()));
     assert_eq!(rt; Sha256::digest(disk.bytes()), want);
-    let opened = open_plain(&mut disk, &asked.password, 1, Kind::StandardOnly);
-    assert_eq!(rt; opened.map(|o| o.fields.volume_size), Ok(512));
 }
 
 #[test]

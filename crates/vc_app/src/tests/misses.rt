@@ -1,5 +1,6 @@
 //! A store and a sink that are missed now and then, and tell nothing of what they hold.
 ghost use Rattle.std.specs.Prelude.{◌≡◌, ◌≤◌, None, ⊤, false, length, true};
+ghost use Rattle.std.proofs.lemmas.Bool.{false≢true};
 ghost use Rattle.vc_base.specs.Faults.{Rose};
 
 use std::alloc::Global;
@@ -103,6 +104,8 @@ impl Store for MissingStore {
     ghost counts_now = { λ _ _ _ _ _ _. tt };
 
     ghost only_now = { λ _ _ _ _. tt };
+
+    ghost image_may_stay = { λ _ modelled. absurd (false≢true modelled) };
 }
 
 // How a sink takes its pieces.
@@ -180,16 +183,19 @@ impl Sink for SlowSink {
         let refusal = self.refusal();
         let room = self.room(piece.len());
         self.writes = self.writes.saturating_add(1);
-        if room == 0
-            || matches!(refusal, Some(OutError::Failed))
-            || matches!(self.way, Way::GetsOver)
-        {
-            self.count_fault();
-        }
         match refusal {
-            Some(error) => Err(error),
+            Some(OutError::Failed) => {
+                self.count_fault();
+                Err(OutError::Failed)
+            }
+            Some(OutError::NoMemory) => Err(OutError::NoMemory),
             None => match self.taken.extend_from_slice(&piece[..room]) {
-                Ok(()) => Ok(room),
+                Ok(()) => {
+                    if room == 0 || matches!(self.way, Way::GetsOver) {
+                        self.count_fault();
+                    }
+                    Ok(room)
+                }
                 Err(_) => Err(OutError::NoMemory),
             },
         }

@@ -1,12 +1,12 @@
--- The moments of a record are its fronts.
-use Rattle.std.proofs.Common.{◌≡◌, ℕ, ◌≤◌, List, length, sym, subst, arith}
+-- The moments of a record are its prefixes.
+use Rattle.std.proofs.Common.{ℕ, ◌≤◌, List, length, sym, subst, arith}
 use Rattle.std.proofs.lemmas.List.{take_all}
-use Rattle.vc_outside.specs.Memory.{Held, May, Since}
-use Rattle.vc_outside.specs.Record.{Event, Outcome}
+use Rattle.vc_outside.specs.Memory.{Held, LeftBy, May, Since}
+use Rattle.vc_outside.specs.Record.{Event}
 
 module _ (h : Held) (c : List ℕ) where
   abbrev At : List Event → Type 0
-  At es = Outcome es h.first (λ d. d ≡ h.first) c
+  At es = LeftBy es h.first c
 
   -- now is the moment of the whole record
   pub counts_now : (t : ℕ) → t ≤ length h.events → May h c → Since h t c

@@ -2,7 +2,7 @@ use Rattle.std.proofs.Common.{◌≤◌, ℕ, ap, subst, ◌∙◌}
 use Rattle.aes_core.specs.Aes as aes
 use Rattle.serpent_core.specs.Serpent as serpent
 use Rattle.twofish_core.specs.Twofish as twofish
-use Rattle.cascade_set.specs.declared.algorithm.Cipher.TheVariants.{Aes, Serpent, Twofish}
+use Rattle.algorithm_names.specs.declared.algorithm.Cipher.TheVariants.{Aes, Serpent, Twofish}
 use Rattle.cascade_set.proofs.InTurn.{no_layer, no_layer_undone, one_layer, one_layer_undone}
 use Rattle.cascade_set.proofs.keyed.layer.Goals as goal
 

@@ -21,7 +21,7 @@ loop-i-preserved c =
     let written : c.write_words.new.block ≡ times_power i first = c.write_words.ensures ∙ inv.power in
     let whole : length c.write_words.new.block ≡ 16 = ap length written ∙ (IsBytes-times_power i first).count in
     record {
-      power = times_power_next i (c.loop-i.low + 2 ^ 64 * c.loop-i.high) _ first c.requires (omega arith) inv.power inv.fits c.double_words.ensures;
+      power = times_power_next i (c.loop-i.low + 2 ^ 64 * c.loop-i.high) _ first inv.power inv.fits c.double_words.ensures;
       fits = next_below (c.loop-i.low + 2 ^ 64 * c.loop-i.high) _ inv.fits c.double_words.ensures;
       long = length-put_mid (16 * i) (16 * i + 16 - 16 * i) c.loop-i.all c.write_words.new.block (omega arith) (omega arith) ∙ long;
       filled = filled_more 16 i (16 * i) (16 * i + 16 - 16 * i) (λ j. times_power j first) c.loop-i.all

@@ -1,4 +1,4 @@
-use Rattle.header_try.specs.Candidates.{is_valid_under}
+use Rattle.header_seal.specs.Candidates.{is_valid_under}
 use Rattle.header_try.proofs.First.{of_first_prf, of_second_prf}
 use Rattle.header_try.proofs.open.try_header.Goals as goal
 

@@ -1,10 +1,10 @@
 use Rattle.std.proofs.Common.{◌≡◌, ℕ, Bool, Some, refl, sym, ap, ◌∙◌, subst, take, find, None, suc, ◌+◌, arith}
 use Rattle.std.proofs.lemmas.List.{take_all}
-use Rattle.cascade_set.specs.declared.algorithm.Algorithm.{Algorithm}
+use Rattle.algorithm_names.specs.declared.algorithm.Algorithm.{Algorithm}
 use Rattle.std.specs.Prelude.{slice_get}
-use Rattle.cascade_set.specs.Algorithms.{all_algorithms}
+use Rattle.algorithm_names.specs.Algorithms.{all_algorithms}
 use Rattle.vc_header.specs.Header.{is_valid}
-use Rattle.header_try.specs.Candidates.{plain_under}
+use Rattle.header_seal.specs.Sealed.{plain_under}
 use Rattle.header_try.proofs.Bodies.{false_where_not}
 use Rattle.header_try.proofs.Finding.{algorithm_at, found_here, not_yet}
 use Rattle.header_try.proofs.slot.try_slot.Goals as goal

@@ -1,7 +1,7 @@
 use Rattle.std.proofs.Common.{◌≡◌, None, find, take}
-use Rattle.cascade_set.specs.Algorithms.{all_algorithms}
+use Rattle.algorithm_names.specs.Algorithms.{all_algorithms}
 use Rattle.vc_header.specs.Header.{is_valid}
-use Rattle.header_try.specs.Candidates.{plain_under}
+use Rattle.header_seal.specs.Sealed.{plain_under}
 use Rattle.header_try.proofs.slot.try_slot.Given as goal
 
 -- no algorithm before this one makes the header valid

@@ -1,6 +1,6 @@
 use Rattle.std.proofs.Common.{◌≡◌, ℕ, ◌<◌, ◌*◌, take, length, refl, sym, ap, ◌∙◌, subst, arith}
 use Rattle.kdf_hmac.specs.Hmac.{output_length}
-use Rattle.kdf_hmac.specs.Progress.{Filled, block}
+use Rattle.kdf_hmac.specs.Laws.Progress.{Filled, block}
 use Rattle.kdf_hmac.proofs.Blocks.{blocks_as_long, filled_as, filled_more}
 use Rattle.kdf_hmac.proofs.block.put_block.Goals as goal
 

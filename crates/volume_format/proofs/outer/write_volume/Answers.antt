@@ -24,7 +24,7 @@ returns-clause-written g c =
     let still : c.salt_at-backup_salt.new.rng ≡ rng = c.salt_at-backup_salt.ensures.rng ∙ kept in
     let moved : c.fill.new.rng ≡ advanced rng size
     = c.in_ok-fill.ensures.drawn ∙ ap (λ (h : ChaCha). advanced h size) still in
-    made (g.D.Store.image c.args.disk.now) (g.D.Store.image c.fill.new.disk)
+    made c.headers_open_again.ensures c.validity_is_decided.ensures (g.D.Store.image c.args.disk.now) (g.D.Store.image c.fill.new.disk)
     (g.D.Store.image c.write_header.new.disk) (g.D.Store.image c.write_header-2.new.disk)
     rng c.args.spec.now c.outer_fields-fields.result c.requires.formattable
     c.salt_at-salt.result c.salt_at-backup_salt.result
@@ -35,7 +35,7 @@ returns-clause-written g c =
     (fields_are rng c.fill.new.rng c.args.spec.now c.key_material-material.result
     c.outer_fields-fields.result moved
     c.key_material-material.ensures.material c.outer_fields-fields.ensures)
-    c.write_header.ensures.readable c.write_header-2.ensures.readable
+    c.write_header.ensures.opens_again c.write_header-2.ensures.opens_again
     (filled_from (g.D.Store.image c.args.disk.now)
     (g.D.Store.image c.fill.new.disk) _ rng size still
     c.in_ok-fill.ensures.filled)

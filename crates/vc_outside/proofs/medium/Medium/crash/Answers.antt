@@ -3,7 +3,7 @@ use Rattle.std.specs.declared.alloc.AllocError.{AllocError}
 use Rattle.std.specs.declared.alloc.Global.{Global}
 use Rattle.vc_outside.specs.Memory.{Held, May}
 use Rattle.vc_outside.specs.Record.{crashed}
-use Rattle.vc_outside.proofs.Held.{may-crash}
+use Rattle.vc_outside.proofs.ReadIsRecorded.{may-crash}
 use Rattle.vc_outside.proofs.medium.Medium.crash.Goals as goal
 
 may : (h : Held) (xs : List ℕ) (r : Result (Vec ℕ Global) AllocError) → May h xs → IfOk r (λ v. v.items ≡ xs) → IfOk r (λ v. May h v.items)

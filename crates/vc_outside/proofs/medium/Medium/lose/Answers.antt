@@ -1,7 +1,7 @@
 use Rattle.std.proofs.Common.{rules, refl, ap}
-use Rattle.vc_outside.specs.Kept.{Log}
+use Rattle.vc_outside.specs.Laws.Log.{Log}
 use Rattle.vc_outside.specs.Record.{Lost}
-use Rattle.vc_outside.proofs.Held.{held-next}
+use Rattle.vc_outside.proofs.ReadIsRecorded.{held-next}
 use Rattle.vc_outside.proofs.medium.Medium.lose.Goals as goal
 
 pub invariant_of-self : goal.invariant_of-self

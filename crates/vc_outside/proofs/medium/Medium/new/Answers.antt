@@ -1,5 +1,5 @@
 use Rattle.std.proofs.Common.{rules}
-use Rattle.vc_outside.proofs.Held.{held-first}
+use Rattle.vc_outside.proofs.ReadIsRecorded.{held-first}
 use Rattle.vc_outside.proofs.medium.Medium.new.Goals as goal
 
 pub invariant_of-result : goal.invariant_of-result

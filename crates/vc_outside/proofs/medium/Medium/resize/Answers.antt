@@ -1,7 +1,7 @@
 use Rattle.std.proofs.Common.{ap, rules}
-use Rattle.vc_outside.specs.Kept.{Log}
+use Rattle.vc_outside.specs.Laws.Log.{Log}
 use Rattle.vc_outside.specs.Record.{Resized}
-use Rattle.vc_outside.proofs.Held.{held-next}
+use Rattle.vc_outside.proofs.ReadIsRecorded.{held-next}
 use Rattle.vc_outside.proofs.medium.Medium.resize.Goals as goal
 
 pub invariant_of-self-2 : goal.invariant_of-self-2

@@ -1,11 +1,11 @@
 use Rattle.std.proofs.Common.{◌≡◌, ◌+◌, ◌≤◌, ℕ, List, ◌++◌, ◌∷◌, [], length, take, sym, ◌∙◌, ap, rules, arith}
 use Rattle.std.proofs.lemmas.Grind.{common_steps}
 use Rattle.std.specs.Prelude.{slice_range}
-use Rattle.vc_outside.specs.Kept.{Log}
+use Rattle.vc_outside.specs.Laws.Log.{Log}
 use Rattle.vc_outside.specs.Memory.{noted, shown, stored}
 use Rattle.vc_outside.specs.Record.{Wrote}
 use Rattle.vc_outside.specs.Told.{written}
-use Rattle.vc_outside.proofs.Held.{held-next, stored-all, stored-after, stored-long}
+use Rattle.vc_outside.proofs.ReadIsRecorded.{held-next, stored-all, stored-after, stored-long}
 use Rattle.vc_outside.proofs.medium.Medium.write.Goals as goal
 
 pub invariant_of-self : goal.invariant_of-self

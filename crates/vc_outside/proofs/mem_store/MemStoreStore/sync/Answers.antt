@@ -11,7 +11,7 @@ returns-clause-lasting c =
     let old = c.args.self.now in
     let new = c.sync_by_plan.new.self in
     let P : Memory → Type 0 = λ m. IsLasting true (Some (shown m.held)) (May m.held) in
-    weaken c.sync_by_plan.result (new ≡ called (Some Synced) false old) (P new) c.sync_by_plan.ensures.ok (λ is. subst P (sym is) (λ _. sync-lasts old.held))
+    weaken c.sync_by_plan.result (new ≡ called (Some Synced) false old) (P new) c.sync_by_plan.ensures.ok (λ is. subst P (sym is) (sync-lasts old.held))
 
 pub returns-clause-image : goal.returns-clause-image
 returns-clause-image c =
@@ -37,5 +37,5 @@ returns-clause-crash c =
     let new = c.sync_by_plan.new.self in
     let P : Memory → Type 0 = λ m. Follow old.held m.held Stays in
     each c.sync_by_plan.result (new ≡ called (Some Synced) false old) (new ≡ called None true old) (P new) c.sync_by_plan.ensures.ok c.sync_by_plan.ensures.failed
-    (λ is. subst P (sym is) (sync-follows old.held c.sync_by_plan.ensures.shown))
+    (λ is. subst P (sym is) (sync-follows old.held))
     (λ is. subst P (sym is) (stays old.held))

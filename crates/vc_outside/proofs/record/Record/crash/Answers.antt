@@ -1,10 +1,11 @@
 use Rattle.std.proofs.Common.{◌≡◌, ℕ, List, get_or, ap, subst, sym, ◌∙◌, rules, arith}
 use Rattle.std.proofs.lemmas.List.{length-map}
-use Rattle.vc_outside.specs.Kept.{Log, event_of, events_of}
-use Rattle.vc_outside.specs.Record.{after, crashed, Event, Fits, IsRecord, picked}
+use Rattle.vc_outside.specs.Laws.Log.{Log, event_of, events_of}
+use Rattle.vc_outside.specs.Record.{after, crashed, Event, picked}
+use Rattle.vc_outside.specs.Laws.Invariant.{Fits, IsRecord}
 use Rattle.vc_outside.specs.declared.record.Call.{Call}
 use Rattle.vc_outside.specs.declared.record.Call.TheVariants.{Write}
-use Rattle.vc_outside.proofs.Replayed.{starts, ends, fits, long, goes_on}
+use Rattle.vc_outside.proofs.CrashIsReplayed.{starts, ends, fits, long, goes_on}
 use Rattle.vc_outside.proofs.record.Record.crash.Goals as goal
 
 pub loop-call-init : goal.loop-call-init

@@ -1,5 +1,5 @@
-use Rattle.vc_outside.specs.Kept.{events_of}
-use Rattle.vc_outside.proofs.Replayed.{SoFar}
+use Rattle.vc_outside.specs.Laws.Log.{events_of}
+use Rattle.vc_outside.proofs.CrashIsReplayed.{SoFar}
 use Rattle.vc_outside.proofs.record.Record.crash.Given as goal
 
 abbrev pub invariant-loop-call : goal.invariant-loop-call

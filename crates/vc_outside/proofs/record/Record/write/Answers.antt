@@ -1,9 +1,9 @@
 use Rattle.std.proofs.Common.{◌≡◌, ℕ, List, [], ◌∷◌, ◌++◌, length, ◌∙◌, ap, rules}
-use Rattle.vc_outside.specs.Kept.{events_of}
+use Rattle.vc_outside.specs.Laws.Log.{events_of}
 use Rattle.vc_outside.specs.Record.{Wrote}
 use Rattle.vc_outside.specs.declared.record.Call.{Call}
 use Rattle.vc_outside.specs.declared.record.Call.TheVariants.{Write}
-use Rattle.vc_outside.proofs.Kept.{events-write, log-added}
+use Rattle.vc_outside.proofs.RecordGrows.{events-write, log-added}
 use Rattle.vc_outside.proofs.record.Record.write.Goals as goal
 
 pub returns : goal.returns

@@ -1,0 +1,2 @@
+-- the algorithms, their numbers, names and ciphers
+pub mod Algorithms

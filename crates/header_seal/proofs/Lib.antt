@@ -1,0 +1,2 @@
+-- what was sealed opens again
+mod OpenedAgain

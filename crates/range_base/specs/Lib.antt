@@ -1,0 +1,2 @@
+-- ranges, and what two of them have in common
+pub mod Range

@@ -1,0 +1,2 @@
+-- what a book is, and how it changes
+pub mod Book
