@@ -5,7 +5,7 @@ use std::cmp::min;
 use std::mem::take;
 
 /// A part of a buffer: its index, counted from 0, the number of its first data unit, and its bytes.
-/// What is written to the bytes stands at their place in the buffer.
+/// What is written to the bytes is in the buffer, at their place, once the loan has ended.
 #[derive(Drop)]
 pub struct Part<'a> {
     pub index: u64,
@@ -28,7 +28,7 @@ pub struct Parts<'a> {
 }
 
 impl<'a> Parts<'a> {
-    ghost use Rattle.std.specs.Prelude.{◌≡◌, ◌+◌, ◌/◌, ◌%◌, ◌^◌, ◌<◌, ◌≤◌, ◌↔◌, length, take, drop, IsNone, IfSome, IfNone};
+    ghost use Rattle.std.specs.Prelude.{◌≡◌, ◌+◌, ◌/◌, ◌%◌, ◌^◌, ◌<◌, ◌≤◌, ◌↔◌, length, take, drop, IsNone, IfNone, IfSome};
     ghost use Rattle.sector_view.specs.Parts.{next_index, next_unit, piece_of, rest_of};
 
     /// The parts of `buffer`, whose first data unit has the number `unit`. Each has `piece` bytes, the
@@ -64,6 +64,9 @@ impl<'a> Parts<'a> {
         ensures next_unit { IfSome result (λ part. next_unit self.new
             ≡ next_unit self.old + length part.bytes.now / 512) }
         ensures piece { piece_of self.new ≡ piece_of self.old }
+
+        // The last answer changes nothing: the loan of what is left stays this one.
+        ensures kept { IfNone result (self.new ≡ self.old) }
     {
         let len = self.rest.len();
         if len == 0 {
@@ -89,7 +92,7 @@ mod tests {
 
     // by hand: five units, cut every two, of which the first has the number 9
     #[test]
-    fn what_is_written_through_a_part_stands_at_its_place(rt: HostRuntime) {
+    fn what_is_written_through_a_part_is_at_its_place(rt: HostRuntime) {
         let mut buffer = [0; 2560];
         let mut parts = Parts::new(&mut buffer, 9, 1024);
         let rows = [(0, 9u8, 1024), (1, 11, 1024), (2, 13, 512)];
