@@ -6,7 +6,7 @@ use Rattle.std.proofs.lemmas.Bool.{cases_lt}
 use Rattle.std.proofs.lemmas.List.{drop_more}
 use Rattle.std.proofs.lemmas.List.Elements.{All-append, All-cons, All-take, All-drop}
 use Rattle.std.proofs.lemmas.List.Quantifiers.{all_pairs_remove}
-use Rattle.std.specs.List.{All, AllPairs, AllWithin, insert, remove}
+use Rattle.std.specs.List.{All, AllWithin, insert, remove}
 use Rattle.std.specs.List.Sorted.{IsNonDecreasingBy}
 use Rattle.range_book.specs.declared.reserved.Reserved.{Reserved}
 use Rattle.range_book.specs.Book.{AreApart, HasName, IsAdded, Meets}

@@ -1,5 +1,5 @@
 -- If a relation holds of all pairs of a list, earlier before later, it does so with an element put in at place i
--- to which the earlier ones stand in it, and which stands in it to the later ones.
+-- if it holds between each earlier one and the new one, and between the new one and each later one.
 --
 -- Below i the new list has the old elements at their places, and above i at the places before.
 use Rattle.std.proofs.Common.{◌≡◌, ℕ, ◌+◌, ◌-◌, ◌<◌, ◌≤◌, List, length, get_or, ap, sym, ◌∙◌, subst, inl, inr, arith}

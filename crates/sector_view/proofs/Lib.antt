@@ -1,0 +1,2 @@
+-- units that are deciphered in two halves
+pub mod Halves

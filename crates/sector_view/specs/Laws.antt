@@ -1,0 +1,2 @@
+-- a block that is turned round: the cipher of the tests
+pub mod Turned
