@@ -1,21 +1,30 @@
 -- The key schedule, as the code fills it.
-use Rattle.std.proofs.Common.{◌≡◌, ◌<◌, ◌≤◌, ◌+◌, ◌*◌, ◌-◌, ◌%◌, List, [], ◌∷◌, ◌++◌, ℕ, suc, length, take, drop, get_or, refl, sym, ap, ap₂, ◌∙◌, subst, arith, bit_xor, w32, get_or-take, get_or-drop, length-append, length-drop}
+use Rattle.std.proofs.Common.{◌≡◌, ◌<◌, ◌≤◌, ◌+◌, ◌*◌, ◌-◌, ◌%◌, ◌^◌, List, [], ◌∷◌, ◌++◌, ℕ, zero, suc, length, take, drop, get_or, slice_index, slice_index_or, refl, sym, ap, ap₂, ◌∙◌, subst, arith, lit<, bit_xor, w32, get_or-take, get_or-drop, length-append, length-drop}
 use Rattle.std.specs.Int.{from_le_bytes, rotate_left}
-use Rattle.std.proofs.lemmas.List.{length-take-le}
-use Rattle.std.proofs.lemmas.Slice.{take-put_mid}
+use Rattle.std.proofs.lemmas.List.{take_all}
 use Rattle.std.proofs.Math.ListN.{set}
 use Rattle.std.proofs.Math.Seq.{take-append_seam, take-suc-set}
-use borrow.Rule.Slice.PartMut.{put_mid}
 use Rattle.vc_base.specs.Bytes.{from_bytes, piece, joined}
+use Rattle.vc_base.proofs.Pieces.{length-piece, joined_more}
 use Rattle.vc_base.proofs.Words.{from_le_bytes_4}
-use Rattle.serpent_core.specs.Serpent.{entry, substituted, word, xor_three, golden, next_prekey, prekeys, round_key}
-use Rattle.serpent_core.specs.Laws.Substituted.{entry_modulo}
-use Rattle.serpent_core.proofs.WordByWord.{piece_of_four}
+use Rattle.lane_kernels.specs.SerpentRounds.{entry, substituted, word, xor_three}
+use Rattle.lane_kernels.proofs.States.{four}
+use Rattle.lane_kernels.proofs.Substituted.{substituted-words}
+use Rattle.serpent_core.specs.Serpent.{golden, next_prekey, prekeys, round_key, round_keys}
+use Rattle.serpent_core.specs.Laws.Undone.{AreRoundKeys}
 
--- box j stands for box k
-pub box_modulo : (j k : ℕ) (x r : List ℕ) → j % 8 ≡ k % 8 → r ≡ substituted (entry j) x
-    → r ≡ substituted (entry k) x
-box_modulo j k x r same is = is ∙ ap (λ (f : ℕ → ℕ). substituted f x) (entry_modulo j k same)
+-- four words from place 4r on
+pub piece_of_four : (ks : List ℕ) (r : ℕ) → 4 * r + 4 ≤ length ks
+    → piece 4 r ks ≡ get_or ks (4 * r) 0 ∷ get_or ks (4 * r + 1) 0 ∷ get_or ks (4 * r + 2) 0
+    ∷ get_or ks (4 * r + 3) 0 ∷ []
+piece_of_four ks r inside =
+    let at : (j : ℕ) → j < 4 → get_or (piece 4 r ks) j 0 ≡ get_or ks (4 * r + j) 0
+    = λ j below. get_or-take 4 (drop (4 * r) ks) j 0 below ∙ get_or-drop (4 * r) ks j 0 in
+    let first : 4 * r + 0 ≡ 4 * r = omega arith in
+    four (piece 4 r ks) (length-piece 4 r ks inside)
+    ∙ ap₂ ◌∷◌ (at 0 (omega arith) ∙ ap (λ (i : ℕ). get_or ks i 0) first)
+    (ap₂ ◌∷◌ (at 1 (omega arith)) (ap₂ ◌∷◌ (at 2 (omega arith))
+    (ap₂ ◌∷◌ (at 3 (omega arith)) refl)))
 
 -- word i of a key, from its four bytes
 pub key_word_is : (key : List ℕ) (i w : ℕ) → 4 * i + 4 ≤ length key
@@ -51,13 +60,16 @@ turned-ext i a b c d a' b' c' d' same_a same_b same_c same_d =
     ap (λ (x : ℕ). rotate_left w32 (bit_xor x (bit_xor golden i)) 11)
     (ap₂ bit_xor (ap₂ bit_xor (ap₂ bit_xor same_a same_b) same_c) same_d)
 
-pub prekey_is : (w : List ℕ) (i r : ℕ)
-    → r ≡ turned i (get_or w i 0) (get_or w (i + 3) 0) (get_or w (i + 5) 0) (get_or w (i + 7) 0)
+-- whatever the order of its sum
+pub prekey_is : (w : List ℕ) (i sum r : ℕ) → r ≡ rotate_left w32 sum 11
+    → sum ≡ bit_xor (bit_xor (xor_three (get_or w i 0) (get_or w (i + 3) 0) (get_or w (i + 5) 0))
+    (get_or w (i + 7) 0)) (bit_xor golden i)
     → r ≡ next_prekey w i
 unfolding next_prekey
-prekey_is w i r is =
+prekey_is w i sum r is same =
     let first : i ≡ i + 0 = omega arith in
-    is ∙ turned-ext i _ _ _ _ _ _ _ _ (ap (λ (k : ℕ). get_or w k 0) first) refl refl refl
+    is ∙ ap (λ (x : ℕ). rotate_left w32 x 11) same
+    ∙ turned-ext i _ _ _ _ _ _ _ _ (ap (λ (k : ℕ). get_or w k 0) first) refl refl refl
 
 -- prekey i rests on the words before it alone
 next_prekey-take : (w : List ℕ) (i : ℕ) → next_prekey (take (i + 8) w) i ≡ next_prekey w i
@@ -96,34 +108,53 @@ prekeys_go_on key w i v inside so_far is =
 
 -- ---- the round keys
 
-pub length-written : (a k : ℕ) (xs ys : List ℕ) → a + k ≤ length xs → length ys ≡ k
-    → length (put_mid a k xs ys) ≡ length xs
-length-written a k xs ys within long =
-    let rest : List ℕ = drop k (drop a xs) in
-    let whole = length-append (take a xs) (ys ++ rest) in
-    let front = length-take-le a xs (omega arith) in
-    omega (arith, whole, front, length-append ys rest, length-drop k (drop a xs), length-drop a xs)
-
 is_round_key : (key w ys : List ℕ) (i : ℕ) → w ≡ prekeys key 132
     → ys ≡ substituted (entry (35 - i)) (piece 4 i (drop 8 w)) → ys ≡ round_key key i
 unfolding round_key
 is_round_key key w ys i is_w is =
     is ∙ ap (λ (u : List ℕ). substituted (entry (35 - i)) (piece 4 i (drop 8 u))) is_w
 
-one_more_key : (key : List ℕ) (i m : ℕ) → suc i ≡ m
-    → joined (round_key key) i ++ round_key key i ≡ joined (round_key key) m
-unfolding joined
-one_more_key key i m next = ap (joined (round_key key)) next
-
-pub keys_start : (key : List ℕ) → [] ≡ joined (round_key key) 0
+pub keys_start : (key : List ℕ) → [] ≡ joined (λ i. round_key key i ∷ []) 0
 unfolding joined
 keys_start key = refl
 
-pub keys_go_on : (key w ks ys : List ℕ) (i k : ℕ) → 4 * i ≤ length ks → length ys ≡ 4
-    → take (4 * i) ks ≡ joined (round_key key) i → w ≡ prekeys key 132
+pub keys_go_on : (key w ys : List ℕ) (ks : List (List ℕ)) (i : ℕ) → i < length ks
+    → take i ks ≡ joined (λ j. round_key key j ∷ []) i → w ≡ prekeys key 132
     → ys ≡ substituted (entry (35 - i)) (piece 4 i (drop 8 w))
-    → take (4 * (i + 1)) (put_mid (4 * i) k ks ys) ≡ joined (round_key key) (i + 1)
-keys_go_on key w ks ys i k within long so_far is_w is =
-    take-put_mid (4 * i) k ks ys (4 * (i + 1)) (omega arith) within
-    ∙ ap₂ ◌++◌ so_far (is_round_key key w ys i is_w is)
-    ∙ one_more_key key i (i + 1) (omega arith)
+    → take (i + 1) (set ks i ys) ≡ joined (λ j. round_key key j ∷ []) (i + 1)
+keys_go_on key w ys ks i within so_far is_w is =
+    let next : i + 1 ≡ suc i = omega arith in
+    ap (λ (n : ℕ). take n (set ks i ys)) next
+    ∙ take-suc-set ks i ys within
+    ∙ ap₂ (λ (u : List (List ℕ)) (x : List ℕ). u ++ x ∷ []) so_far (is_round_key key w ys i is_w is)
+    ∙ sym (joined_more (λ j. round_key key j ∷ []) i)
+
+pub keys_end : (key : List ℕ) (ks : List (List ℕ)) (i : ℕ) → length ks ≡ 33 → i ≡ 33
+    → take i ks ≡ joined (λ j. round_key key j ∷ []) i → ks ≡ round_keys key
+keys_end key ks i long last so_far =
+    sym (take_all i ks (omega arith)) ∙ so_far ∙ ap (joined (λ j. round_key key j ∷ [])) last
+
+-- ---- they are words
+
+one_more_row : (xs : List (List ℕ)) (y : List ℕ) (r j : ℕ)
+    → ((i k : ℕ) → slice_index (slice_index_or xs i []) k < 2 ^ 32)
+    → ((k : ℕ) → slice_index y k < 2 ^ 32) → slice_index (slice_index_or (xs ++ y ∷ []) r []) j < 2 ^ 32
+one_more_row [] y zero j rows words = words j
+one_more_row [] y (suc r) j rows words = lit< tt
+one_more_row (x ∷ xs) y zero j rows words = rows 0 j
+one_more_row (x ∷ xs) y (suc r) j rows words = one_more_row xs y r j (λ i k. rows (suc i) k) words
+
+one_by_one : (f : ℕ → List ℕ) (n r : ℕ) → ((i j : ℕ) → slice_index (f i) j < 2 ^ 32) → (j : ℕ)
+    → slice_index (slice_index_or (joined (λ i. f i ∷ []) n) r []) j < 2 ^ 32
+unfolding joined
+one_by_one f zero r words j = lit< tt
+one_by_one f (suc n) r words j =
+    one_more_row (joined (λ i. f i ∷ []) n) (f n) r j (λ i k. one_by_one f n i words k) (words n)
+
+pub round_keys-words : (key : List ℕ) → AreRoundKeys (round_keys key)
+unfolding round_key
+round_keys-words key = record {
+  each = λ r j.
+      one_by_one (round_key key) 33 r
+      (λ i k. (substituted-words (entry (35 - i)) (piece 4 i (drop 8 (prekeys key 132)))).each k) j;
+}

@@ -2,24 +2,24 @@
 //! the boxes.
 ghost use Rattle.std.specs.Prelude.{◌≡◌, ◌<◌, ◌-◌, drop};
 ghost use Rattle.vc_base.specs.Bytes.{piece};
-ghost use Rattle.serpent_core.specs.Serpent.{entry, substituted, word, next_prekey, prekeys, round_keys};
+ghost use Rattle.lane_kernels.specs.SerpentRounds.{entry, substituted, word};
+ghost use Rattle.serpent_core.specs.Serpent.{next_prekey, prekeys, round_keys};
 
-use crate::boxes::{s0, s1, s2, s3, s4, s5, s6, s7};
+use lane_kernels::{SerpentKeys, serpent_box};
 
 // The first 32 bits of the fractional part of the golden ratio.
 const GOLDEN: u32 = 0x9e37_79b9;
 
-/// The 33 round keys that a key makes, one after the other.
-pub fn expand(key: &[u8; 32]) -> [u32; 132]
-    ensures { result ≡ round_keys key.now }
+/// The 33 round keys that a key makes.
+pub fn expand(key: &[u8; 32]) -> SerpentKeys
+    ensures { result.k ≡ round_keys key.now }
 {
     let words = all_words(key);
-    let mut keys = [0; 132];
+    let mut k = [[0; 4]; 33];
     for i in 0..33 {
-        let round_key = key_of_round(&words, i);
-        keys[4 * i..4 * i + 4].copy_from_slice(&round_key);
+        k[i] = key_of_round(&words, i);
     }
-    keys
+    SerpentKeys { k }
 }
 
 // The words of the key, and the prekeys after them.
@@ -73,21 +73,5 @@ fn key_of_round(words: &[u32; 140], i: usize) -> [u32; 4]
 {
     let at = 4 * i + 8;
     let x = [words[at], words[at + 1], words[at + 2], words[at + 3]];
-    boxed(35 - i, x)
-}
-
-// S-box k, modulo 8.
-fn boxed(k: usize, x: [u32; 4]) -> [u32; 4]
-    ensures { result ≡ substituted (entry k) x }
-{
-    match k % 8 {
-        0 => s0(x),
-        1 => s1(x),
-        2 => s2(x),
-        3 => s3(x),
-        4 => s4(x),
-        5 => s5(x),
-        6 => s6(x),
-        _ => s7(x),
-    }
+    serpent_box(35 - i, x)
 }

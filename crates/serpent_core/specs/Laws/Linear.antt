@@ -1,18 +1,18 @@
 -- The linear transformation and its inverse undo each other on states.
 --
--- A word turned left by j is its lowest 32 - j bits, followed by its highest j: so turning it right
+-- A word rotated left by j is its lowest 32 - j bits, followed by its highest j: so rotating it right
 -- by j puts the two parts back. What was added to a word goes when it is added again.
 use Rattle.std.proofs.Common.{◌≡◌, ◌<◌, ◌+◌, ◌*◌, ◌/◌, ◌%◌, ◌^◌, List, ◌∷◌, ℕ, slice_index, refl, sym, ap, ap₂, ◌∙◌, arith, bit_xor, bit_or, pow_pos}
 use Rattle.std.specs.Int.Bits.{or_shifted_r}
 use Rattle.std.proofs.lemmas.Nat.{or_lt, or_comm, or_shifted, xor_lt, pow-add, mod-pow-add, div-mul-add, mod-mul-add, div-add-mod'}
 use Rattle.std.proofs.Math.Nat.{mul-div_cancel, mul-mod_left, mod-lt, lt_of_mul-lt-mul_right}
 use Rattle.vc_base.proofs.Xor.{xor_cancel, xor_right_comm}
-use Rattle.serpent_core.specs.Serpent.{AreWords, xor_three, shifted, linear, inverse_linear}
-use Rattle.serpent_core.specs.Laws.States.{four, are_four}
+use Rattle.lane_kernels.specs.SerpentRounds.{AreWords, xor_three, shifted, linear, inverse_linear}
+use Rattle.lane_kernels.proofs.States.{four, are_four}
 
 -- ---- rotations
 
--- a word turned left by j, and one turned right by j, where j + k is 32
+-- a word rotated left by j, and one rotated right by j, where j + k is 32
 abbrev left : ℕ → ℕ → ℕ → ℕ
 left j k x = bit_or (x * 2 ^ j % 2 ^ 32) (x / 2 ^ k)
 

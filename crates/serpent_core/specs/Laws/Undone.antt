@@ -1,137 +1,124 @@
--- The cipher and its inverse undo each other, and keep blocks blocks.
+-- The cipher and its inverse undo each other.
 --
 -- Each step of a round is undone by its inverse on states. The inverse cipher after n rounds back
 -- is at what the cipher has after 31 - n rounds, and the other way round.
-use Rattle.std.proofs.Common.{◌≡◌, ◌<◌, ◌+◌, ◌-◌, ◌*◌, ◌^◌, List, ℕ, zero, suc, drop, get_or, slice_index, refl, sym, ap, ap₂, ◌∙◌, subst, arith, bit_xor, get_or-take, get_or-drop}
+use Rattle.std.proofs.Common.{◌≡◌, ◌<◌, ◌+◌, ◌-◌, ◌^◌, List, [], ◌∷◌, ℕ, zero, suc, slice_index, slice_index_or, refl, sym, ap, ap₂, ◌∙◌, subst, arith, bit_xor}
 use Rattle.std.proofs.lemmas.Nat.{xor_lt}
-use Rattle.vc_base.specs.Bytes.{IsBytes, xor_bytes, piece}
-use Rattle.vc_base.proofs.Bytes.{xor_bytes_cancel}
-use Rattle.vc_base.proofs.Pieces.{length-piece}
-use Rattle.serpent_core.specs.Serpent.{AreWords, entry, inverse_entry, substituted, linear, inverse_linear, state, block, add_key, rounds, cipher, inverse_rounds, inverse_cipher}
-use Rattle.serpent_core.specs.Laws.States.{four, are_four, are_words}
-use Rattle.serpent_core.specs.Laws.Substituted.{substituted-words, box_undone, box_done}
+use Rattle.vc_base.specs.Bytes.{IsBytes}
+use Rattle.vc_base.proofs.Xor.{xor_cancel}
+use Rattle.lane_kernels.specs.SerpentRounds.{AreWords, entry, inverse_entry, substituted, linear, inverse_linear, state, block, add_key, rounds, cipher, inverse_rounds, inverse_cipher}
+use Rattle.lane_kernels.proofs.States.{four, are_four}
+use Rattle.lane_kernels.proofs.Substituted.{substituted-words, box_undone, box_done}
+use Rattle.lane_kernels.proofs.Blocks.{state-words, state-block, block-state}
 use Rattle.serpent_core.specs.Laws.Linear.{linear-words, inverse_linear-words, linear_undone, linear_done}
-use Rattle.serpent_core.specs.Laws.Blocks.{block-bytes, state-words, state-block, block-state}
+
+-- round keys are words
+pub record AreRoundKeys (ks : List (List ℕ)) : Type 0 where
+  pub each : (r j : ℕ) → slice_index (slice_index_or ks r []) j < 2 ^ 32
 
 -- ---- a round key, added and taken away
 
-key-words : (ks : List ℕ) (r : ℕ) → AreWords 132 ks → r < 33 → AreWords 4 (piece 4 r ks)
-key-words ks r keys below =
-    let word : (j : ℕ) → j < 4 → get_or (piece 4 r ks) j 0 < 2 ^ 32
-    = λ j inside. subst (λ (w : ℕ). w < 2 ^ 32)
-    (sym (get_or-take 4 (drop (4 * r) ks) j 0 inside ∙ get_or-drop (4 * r) ks j 0))
-    (keys.each (4 * r + j)) in
-    are_words (piece 4 r ks) (length-piece 4 r ks (omega (arith, keys.count)))
-    (word 0 (omega arith)) (word 1 (omega arith)) (word 2 (omega arith)) (word 3 (omega arith))
-
-add_key-words : (ks : List ℕ) (r : ℕ) (x : List ℕ) → AreWords 132 ks → r < 33 → AreWords 4 x
+add_key-words : (ks : List (List ℕ)) (r : ℕ) (x : List ℕ) → AreRoundKeys ks → AreWords 4 x
     → AreWords 4 (add_key ks r x)
-unfolding add_key xor_bytes
-add_key-words ks r x keys below words =
-    let k : List ℕ = piece 4 r ks in
-    let key : AreWords 4 k = key-words ks r keys below in
-    let word : (j : ℕ) → bit_xor (slice_index x j) (slice_index k j) < 2 ^ 32
-    = λ j. xor_lt 32 (slice_index x j) (slice_index k j) (words.each j) (key.each j) in
-    subst (λ (y : List ℕ). AreWords 4 y) (sym (ap₂ xor_bytes (four x words.count)
-    (four k key.count)))
-    (are_four _ _ _ _ (word 0) (word 1) (word 2) (word 3))
+unfolding add_key
+add_key-words ks r x keys words =
+    let sum : (j : ℕ) → bit_xor (slice_index x j) (slice_index (slice_index_or ks r []) j) < 2 ^ 32
+    = λ j. xor_lt 32 (slice_index x j) (slice_index (slice_index_or ks r []) j) (words.each j)
+    (keys.each r j) in
+    are_four _ _ _ _ (sum 0) (sum 1) (sum 2) (sum 3)
 
-add_key_undone : (ks : List ℕ) (r : ℕ) (x : List ℕ) → AreWords 132 ks → r < 33 → AreWords 4 x
+add_key_undone : (ks : List (List ℕ)) (r : ℕ) (x : List ℕ) → AreWords 4 x
     → add_key ks r (add_key ks r x) ≡ x
 unfolding add_key
-add_key_undone ks r x keys below words =
-    let key : AreWords 4 (piece 4 r ks) = key-words ks r keys below in
-    xor_bytes_cancel x (piece 4 r ks) (omega (arith, words.count, key.count))
+add_key_undone ks r x words =
+    let back : (j : ℕ)
+    → bit_xor (bit_xor (slice_index x j) (slice_index (slice_index_or ks r []) j))
+    (slice_index (slice_index_or ks r []) j) ≡ slice_index x j
+    = λ j. xor_cancel (slice_index x j) (slice_index (slice_index_or ks r []) j) in
+    ap₂ ◌∷◌ (back 0) (ap₂ ◌∷◌ (back 1) (ap₂ ◌∷◌ (back 2) (ap₂ ◌∷◌ (back 3) refl)))
+    ∙ sym (four x words.count)
 
 -- ---- the two steps of a round that stand beside the linear transformation, and both undone
 
-abbrev boxed : List ℕ → ℕ → List ℕ → List ℕ
+abbrev boxed : List (List ℕ) → ℕ → List ℕ → List ℕ
 boxed ks r x = substituted (entry r) (add_key ks r x)
 
-abbrev unboxed : List ℕ → ℕ → List ℕ → List ℕ
+abbrev unboxed : List (List ℕ) → ℕ → List ℕ → List ℕ
 unboxed ks r x = add_key ks r (substituted (inverse_entry r) x)
 
-unboxed-words : (ks : List ℕ) (r : ℕ) (x : List ℕ) → AreWords 132 ks → r < 33
+unboxed-words : (ks : List (List ℕ)) (r : ℕ) (x : List ℕ) → AreRoundKeys ks
     → AreWords 4 (unboxed ks r x)
-unboxed-words ks r x keys below =
-    add_key-words ks r (substituted (inverse_entry r) x) keys below
+unboxed-words ks r x keys =
+    add_key-words ks r (substituted (inverse_entry r) x) keys
     (substituted-words (inverse_entry r) x)
 
-boxed_undone : (ks : List ℕ) (r : ℕ) (x : List ℕ) → AreWords 132 ks → r < 33 → AreWords 4 x
+boxed_undone : (ks : List (List ℕ)) (r : ℕ) (x : List ℕ) → AreRoundKeys ks → AreWords 4 x
     → unboxed ks r (boxed ks r x) ≡ x
-boxed_undone ks r x keys below words =
-    ap (add_key ks r) (box_undone r (add_key ks r x) (add_key-words ks r x keys below words))
-    ∙ add_key_undone ks r x keys below words
+boxed_undone ks r x keys words =
+    ap (add_key ks r) (box_undone r (add_key ks r x) (add_key-words ks r x keys words))
+    ∙ add_key_undone ks r x words
 
-unboxed_done : (ks : List ℕ) (r : ℕ) (x : List ℕ) → AreWords 132 ks → r < 33 → AreWords 4 x
+unboxed_done : (ks : List (List ℕ)) (r : ℕ) (x : List ℕ) → AreWords 4 x
     → boxed ks r (unboxed ks r x) ≡ x
-unboxed_done ks r x keys below words =
+unboxed_done ks r x words =
     ap (substituted (entry r))
-    (add_key_undone ks r (substituted (inverse_entry r) x) keys below
+    (add_key_undone ks r (substituted (inverse_entry r) x)
     (substituted-words (inverse_entry r) x))
     ∙ box_done r x words
 
 -- ---- the rounds keep a state a state
 
-rounds-words : (ks x : List ℕ) (n : ℕ) → AreWords 4 x → AreWords 4 (rounds ks x n)
+rounds-words : (ks : List (List ℕ)) (x : List ℕ) (n : ℕ) → AreWords 4 x → AreWords 4 (rounds ks x n)
 unfolding rounds
 rounds-words ks x zero words = words
 rounds-words ks x (suc n) words =
     linear-words (boxed ks n (rounds ks x n)) (substituted-words (entry n)
     (add_key ks n (rounds ks x n)))
 
-inverse_rounds-words : (ks x : List ℕ) (n : ℕ) → AreWords 132 ks
+inverse_rounds-words : (ks : List (List ℕ)) (x : List ℕ) (n : ℕ) → AreRoundKeys ks
     → AreWords 4 (inverse_rounds ks x n)
 unfolding inverse_rounds
-inverse_rounds-words ks x zero keys = unboxed-words ks 31 (add_key ks 32 x) keys (omega arith)
+inverse_rounds-words ks x zero keys = unboxed-words ks 31 (add_key ks 32 x) keys
 inverse_rounds-words ks x (suc n) keys =
-    unboxed-words ks (30 - n) (inverse_linear (inverse_rounds ks x n)) keys (omega arith)
-
-pub cipher-bytes : (ks b : List ℕ) → IsBytes 16 (cipher ks b)
-unfolding cipher
-cipher-bytes ks b = block-bytes _
-
-pub inverse_cipher-bytes : (ks b : List ℕ) → IsBytes 16 (inverse_cipher ks b)
-unfolding inverse_cipher
-inverse_cipher-bytes ks b = block-bytes _
+    unboxed-words ks (30 - n) (inverse_linear (inverse_rounds ks x n)) keys
 
 -- ---- deciphering goes back through the rounds
 
 -- the state that the cipher ends with
-abbrev ended : List ℕ → List ℕ → List ℕ
+abbrev ended : List (List ℕ) → List ℕ → List ℕ
 ended ks x = add_key ks 32 (boxed ks 31 (rounds ks x 31))
 
-ended-words : (ks x : List ℕ) → AreWords 132 ks → AreWords 4 (ended ks x)
+ended-words : (ks : List (List ℕ)) (x : List ℕ) → AreRoundKeys ks → AreWords 4 (ended ks x)
 ended-words ks x keys =
-    add_key-words ks 32 (boxed ks 31 (rounds ks x 31)) keys (omega arith)
+    add_key-words ks 32 (boxed ks 31 (rounds ks x 31)) keys
     (substituted-words (entry 31) (add_key ks 31 (rounds ks x 31)))
 
-back_one : (ks x : List ℕ) (m : ℕ) → AreWords 132 ks → AreWords 4 x → m < 31
+back_one : (ks : List (List ℕ)) (x : List ℕ) (m : ℕ) → AreRoundKeys ks → AreWords 4 x
     → unboxed ks m (inverse_linear (rounds ks x (suc m))) ≡ rounds ks x m
 unfolding rounds
-back_one ks x m keys words below =
+back_one ks x m keys words =
     ap (unboxed ks m) (linear_undone (boxed ks m (rounds ks x m))
     (substituted-words (entry m) (add_key ks m (rounds ks x m))))
-    ∙ boxed_undone ks m (rounds ks x m) keys (omega arith) (rounds-words ks x m words)
+    ∙ boxed_undone ks m (rounds ks x m) keys (rounds-words ks x m words)
 
-back_through : (ks x : List ℕ) (n m : ℕ) → AreWords 132 ks → AreWords 4 x → n + m ≡ 31
+back_through : (ks : List (List ℕ)) (x : List ℕ) (n m : ℕ) → AreRoundKeys ks → AreWords 4 x → n + m ≡ 31
     → inverse_rounds ks (ended ks x) n ≡ rounds ks x m
 unfolding inverse_rounds
 back_through ks x zero m keys words total =
     let last : 31 ≡ m = omega arith in
     ap (unboxed ks 31)
-    (add_key_undone ks 32 (boxed ks 31 (rounds ks x 31)) keys (omega arith)
+    (add_key_undone ks 32 (boxed ks 31 (rounds ks x 31))
     (substituted-words (entry 31) (add_key ks 31 (rounds ks x 31))))
-    ∙ boxed_undone ks 31 (rounds ks x 31) keys (omega arith) (rounds-words ks x 31 words)
+    ∙ boxed_undone ks 31 (rounds ks x 31) keys (rounds-words ks x 31 words)
     ∙ ap (rounds ks x) last
 back_through ks x (suc n) m keys words total =
     let number : 30 - n ≡ m = omega arith in
     ap (λ (y : List ℕ). unboxed ks (30 - n) (inverse_linear y))
     (back_through ks x n (suc m) keys words (omega arith))
     ∙ ap (λ (k : ℕ). unboxed ks k (inverse_linear (rounds ks x (suc m)))) number
-    ∙ back_one ks x m keys words (omega arith)
+    ∙ back_one ks x m keys words
 
-pub cipher_undone : (ks b : List ℕ) → AreWords 132 ks → IsBytes 16 b
+pub cipher_undone : (ks : List (List ℕ)) (b : List ℕ) → AreRoundKeys ks → IsBytes 16 b
     → inverse_cipher ks (cipher ks b) ≡ b
 unfolding cipher inverse_cipher
 cipher_undone ks b keys is =
@@ -145,13 +132,13 @@ cipher_undone ks b keys is =
 
 -- ---- enciphering goes forth through the rounds of the inverse cipher
 
-one_more : (ks x : List ℕ) (m n : ℕ) → 30 - m ≡ n
+one_more : (ks : List (List ℕ)) (x : List ℕ) (m n : ℕ) → 30 - m ≡ n
     → inverse_rounds ks x (suc m) ≡ unboxed ks n (inverse_linear (inverse_rounds ks x m))
 unfolding inverse_rounds
 one_more ks x m n number = ap (λ (k : ℕ). unboxed ks k (inverse_linear (inverse_rounds ks x m)))
     number
 
-forth_through : (ks x : List ℕ) (n m : ℕ) → AreWords 132 ks → n + m ≡ 31
+forth_through : (ks : List (List ℕ)) (x : List ℕ) (n m : ℕ) → AreRoundKeys ks → n + m ≡ 31
     → rounds ks (inverse_rounds ks x 31) n ≡ inverse_rounds ks x m
 unfolding rounds
 forth_through ks x zero m keys total =
@@ -162,11 +149,11 @@ forth_through ks x (suc n) m keys total =
     let words : AreWords 4 before = inverse_rounds-words ks x m keys in
     ap (λ (y : List ℕ). linear (boxed ks n y))
     (forth_through ks x n (suc m) keys (omega arith) ∙ one_more ks x m n (omega arith))
-    ∙ ap linear (unboxed_done ks n (inverse_linear before) keys (omega arith)
+    ∙ ap linear (unboxed_done ks n (inverse_linear before)
     (inverse_linear-words before words))
     ∙ linear_done before words
 
-pub cipher_done : (ks b : List ℕ) → AreWords 132 ks → IsBytes 16 b → cipher ks (inverse_cipher ks b)
+pub cipher_done : (ks : List (List ℕ)) (b : List ℕ) → AreRoundKeys ks → IsBytes 16 b → cipher ks (inverse_cipher ks b)
     ≡ b
 unfolding cipher inverse_cipher
 cipher_done ks b keys is =
@@ -179,7 +166,7 @@ cipher_done ks b keys is =
     ∙ ap (λ (y : List ℕ). block (add_key ks 32 (boxed ks 31 y)))
     (forth_through ks x 31 0 keys refl ∙ first)
     ∙ ap (λ (y : List ℕ). block (add_key ks 32 y))
-    (unboxed_done ks 31 (add_key ks 32 x) keys (omega arith)
-    (add_key-words ks 32 x keys (omega arith) words))
-    ∙ ap block (add_key_undone ks 32 x keys (omega arith) words)
+    (unboxed_done ks 31 (add_key ks 32 x)
+    (add_key-words ks 32 x keys words))
+    ∙ ap block (add_key_undone ks 32 x words)
     ∙ block-state b is

@@ -96,3 +96,31 @@ fn blocks_come_back_under_each_key(rt: HostRuntime) {
         assert!(rt; blocks == before, "{seed}");
     }
 }
+
+#[test]
+fn lists_of_each_length_are_treated_block_by_block(rt: HostRuntime) {
+    let cipher = Serpent256::new(&[0x3c; 32]);
+    let mut plain = [0; 528];
+    for i in 0..528 {
+        plain[i] = (i % 251) as u8;
+    }
+    for count in [0, 1, 7, 8, 9, 31, 33] {
+        let mut forth = plain;
+        let mut back = plain;
+        cipher.encipher_blocks(&mut forth[..16 * count]);
+        cipher.decipher_blocks(&mut back[..16 * count]);
+        let mut forth_by_block = plain;
+        let mut back_by_block = plain;
+        for i in 0..count {
+            let mut block = [0; 16];
+            block.copy_from_slice(&plain[16 * i..16 * i + 16]);
+            let mut undone = block;
+            cipher.encipher(&mut block);
+            cipher.decipher(&mut undone);
+            forth_by_block[16 * i..16 * i + 16].copy_from_slice(&block);
+            back_by_block[16 * i..16 * i + 16].copy_from_slice(&undone);
+        }
+        assert!(rt; forth == forth_by_block, "{count} enciphered");
+        assert!(rt; back == back_by_block, "{count} deciphered");
+    }
+}

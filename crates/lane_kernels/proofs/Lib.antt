@@ -1,0 +1,24 @@
+-- functions that agree at each number below a limit, by computing
+pub mod EachNumber
+-- numbers by their bits, nibbles by their four bits
+pub mod Bits
+-- lists of four words
+pub mod States
+-- boxes on states
+pub mod Substituted
+-- blocks and the states that they spell
+pub mod Blocks
+-- words, as the code reads and writes them
+pub mod WordByWord
+-- vectors of eight words, lane by lane
+pub mod LaneByLane
+-- formulas on one state and on eight
+pub mod Formula
+-- the formulas of the boxes, held against their tables
+pub mod Boxes
+-- the formulas of the linear transformation
+pub mod Mixing
+-- the rounds, one after the other, as the code counts them
+pub mod RoundByRound
+-- blocks in groups of eight
+pub mod Groups

@@ -1,0 +1,13 @@
+use Rattle.std.proofs.Common.{◌≡◌, ◌<◌, ◌≤◌, ◌*◌, ◌-◌, ℕ}
+use Rattle.vc_base.specs.Bytes.{piece}
+use Rattle.lane_kernels.specs.SerpentRounds.{inverse_rounds, state}
+use Rattle.lane_kernels.specs.Laws.Lanes.{AreLanes, lane}
+use Rattle.lane_kernels.proofs.lane_rounds.decipher_eight.Given as goal
+
+abbrev pub invariant-loop-i : goal.invariant-loop-i
+invariant-loop-i l = record {
+  within : l.i ≤ 3;
+  lanes : AreLanes l.x;
+  undone : (j : ℕ) → j < 8
+      → lane j l.x ≡ inverse_rounds l.keys.k (state (piece 16 j l.group)) (31 - 8 * l.i);
+}

@@ -1,0 +1,37 @@
+use Rattle.std.proofs.Common.{◌+◌, ◌-◌, ◌*◌, drop, length, refl, ap, ◌∙◌, arith, length-take-le, length-drop}
+use Rattle.cipher_base.proofs.Loops.{starts, goes_on, ends}
+use Rattle.lane_kernels.specs.SerpentRounds.{inverse_cipher}
+use Rattle.lane_kernels.proofs.Blocks.{inverse_cipher-bytes}
+use Rattle.lane_kernels.proofs.Groups.{regrouped}
+use Rattle.lane_kernels.proofs.serpent.serpent_unblocks.Goals as goal
+
+pub loop-i-init : goal.loop-i-init
+loop-i-init c = starts _ _ _ _ refl
+
+pub loop-i-preserved : goal.loop-i-preserved
+loop-i-preserved c =
+    let i = c.loop-i.i in
+    let group = length-take-le (128 * i + 128 - 128 * i) (drop (128 * i) c.loop-i.blocks)
+    (omega (arith, length-drop (128 * i) c.loop-i.blocks)) in
+    goes_on 128 i (128 * i) (128 * i + 128 - 128 * i) _ _ _ c.decipher_eight.new.group
+    c.loop-i.invariant refl (omega arith) (omega arith) c.decipher_eight.ensures
+    (omega (arith, group))
+
+pub loop-j-init : goal.loop-j-init
+loop-j-init c =
+    regrouped c.loop-i.i _ (inverse_cipher c.args.keys.now.k) _ _ (omega arith) (omega arith)
+    c.loop-i.invariant
+
+pub loop-j-preserved : goal.loop-j-preserved
+loop-j-preserved c =
+    let j = c.loop-j.j in
+    let written = c.copy_from_slice-in-loop-j.ensures.after in
+    goes_on 16 j (16 * j) (16 * j + 16 - 16 * j) _ _ _ c.copy_from_slice-in-loop-j.new.self
+    c.loop-j.invariant refl (omega arith) (omega arith)
+    (written ∙ c.decipher.ensures ∙ ap (inverse_cipher c.args.keys.now.k) c.copy_from_slice.ensures.after)
+    (ap length (written ∙ c.decipher.ensures) ∙ (inverse_cipher-bytes c.args.keys.now.k _).count)
+
+pub returns : goal.returns
+returns c =
+    ends 16 c.loop-j.j _ _ _ c.loop-j.invariant (omega arith) (omega arith) (omega arith)
+    c.requires

@@ -1,0 +1,4 @@
+-- What private contracts cite.
+
+-- eight states side by side
+pub mod Lanes
