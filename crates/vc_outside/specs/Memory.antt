@@ -3,7 +3,7 @@
 -- shown h               what a read gives
 -- LeftBy es b           what a crash may leave after the events, if the bytes at the start were b
 -- May h, Since h        what a crash now may leave, and what one since an earlier moment might have left
--- has_room h n          there is place for one more event with n bytes
+-- has_room h n          there is room for one more event with n bytes
 -- size_of e b           the bytes for which the event takes room, if a read gave b before
 -- noted e h             h with one more event
 -- stored k at xs b      what the range of a write of xs holds if only the first k bytes are stored
@@ -24,7 +24,7 @@ pub record Held : Type 0 where
   pub first : List ℕ
   -- what was recorded since
   pub events : List Event
-  -- for how many more events and how many more bytes there is place
+  -- for how many more events and how many more bytes there is room
   pub places : ℕ
   pub room : ℕ
 
@@ -40,7 +40,8 @@ pub record Memory : Type 0 where
 abbrev pub shown : Held → List ℕ
 shown h = read_after h.events h.first
 
--- What a read gives may stay. Everything else that may be left is an outcome of the events.
+-- What a read gives may stay, and so may each outcome of the events. If every event fits, the first is one of
+-- the second: it is said apart so that it holds of any list of events.
 abbrev pub LeftBy : List Event → List ℕ → List ℕ → Type 0
 LeftBy es b c = (c ≡ read_after es b) ⊎ Outcome es b (λ d. d ≡ b) c
 
@@ -88,7 +89,7 @@ write_by true Fails at xs b = Some (Wrote at (stored (length xs / 2) at xs b))
 write_by true Stops at xs b = Some (Lost at xs)
 write_by true Stopped at xs b = None
 
--- A call succeeds if there is place for it and the plan lets it.
+-- A call succeeds if there is room for it and the plan lets it.
 abbrev pub goes_by : Bool → CallPlan → Bool
 goes_by place plan = place && goes plan
 
@@ -107,6 +108,6 @@ length_goes n m = goes_by (has_room m.held (length (shown m.held) - n)) (plan m)
 abbrev pub sync_goes : Memory → Bool
 sync_goes m = goes_by (has_room m.held 0) (plan m)
 
--- A read is not recorded, and needs no place.
+-- A read isn't recorded, and needs no room.
 abbrev pub read_goes : Memory → Bool
 read_goes m = goes (plan m)

@@ -1,9 +1,9 @@
 -- How a store over memory keeps its record: the calls in a list, and their bytes one after the other.
 --
 -- Log                  a record as its users see it
--- has_place log n      there is place for one more event with n bytes
+-- has_place log n      there is room for one more event with n bytes
 -- added e n log        the log with one more event, with n bytes
--- event_of bytes call  the event that a call stands for
+-- event_of bytes call  the event that a recorded call means
 -- EndsBy n call        the call's bytes end by the n-th
 use Rattle.std.specs.Prelude.{◌≤◌, ◌+◌, ◌-◌, ◌&&◌, nat_lt, nat_le, ℕ, Bool, List, [], ◌∷◌, ◌++◌, length, map, slice_range, Vec, vec_capacity, ⊤}
 use Rattle.std.specs.List.{All}
@@ -14,7 +14,7 @@ use Rattle.vc_outside.specs.declared.record.Call.TheVariants.{Write, Loss, Lengt
 
 pub record Log : Type 0 where
   pub events : List Event
-  -- for how many more events and bytes there is place
+  -- for how many more events and bytes there is room
   pub places : ℕ
   pub room : ℕ
 

@@ -1,4 +1,4 @@
-//! That the rules say what was meant: images that were worked out by hand, of one script of calls.
+//! That the rules say what was meant: images worked out by hand, after one script of calls.
 use super::*;
 
 // A call of a store.
@@ -10,7 +10,7 @@ enum Ask {
     Sync,
 }
 
-// Makes the call, and says whether it was Ok. One past the end is not made.
+// Makes the call and returns whether it succeeded. One past the end isn't made.
 fn asks(store: &mut MemStore, ask: Ask) -> Option<bool> {
     match ask {
         Ask::Read(at) => {
@@ -167,7 +167,7 @@ fn each_plan_leaves_its_images(rt: HostRuntime) {
             b"aXYZPQ...",
             [b"aXYdefgh|", b"aXYZPQ...", b"aXY***..."],
         ),
-        // a failed write counts its whole range as written; no sync was recorded where one failed
+        // a failed write counts its whole range as written; a failed sync isn't recorded
         (
             &[2],
             Some(3),
@@ -218,9 +218,9 @@ fn is_drawn(bytes: &[u8], drawn: &[u8; 9]) -> bool {
         })
 }
 
-// Place for three calls and for three bytes. A read needs none; a failed call and a refused one take none.
+// Room for three calls and for three bytes. A read needs none, and a failed call takes none.
 #[test]
-fn a_call_with_too_little_place_fails(rt: HostRuntime) {
+fn a_call_with_too_little_room_fails(rt: HostRuntime) {
     let Ok(mut store) = store(&rt, &[1], None, 3, 3) else {
         return assert!(rt; false, "no memory");
     };
@@ -247,7 +247,7 @@ fn a_call_with_too_little_place_fails(rt: HostRuntime) {
     assert!(rt; is_drawn(store.bytes(), b"ABcdefg.."));
 }
 
-// What a read gives into the caller's bytes, and a length that no memory has.
+// What a read puts into the caller's bytes, and a length for which there is no memory.
 #[test]
 fn a_read_gives_the_bytes(rt: HostRuntime) {
     let Ok(mut store) = store(&rt, &[], None, 4096, 16 << 20) else {

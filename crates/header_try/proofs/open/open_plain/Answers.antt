@@ -9,7 +9,7 @@ returns-then-not-tries_standard-clause-none_valid g c = λ _.
 pub returns-in-Some-clause-refused : goal.returns-in-Some-clause-refused
 returns-in-Some-clause-refused g c = λ never.
     absurd (never (in_range c.is_container_length.result c.len-len.result (g.D.Store.size c.args.disk.now)
-    c.if-not-is_container_length.false c.is_container_length.ensures c.len-len.ensures))
+    c.if-not-is_container_length.false c.is_container_length.ensures c.len-len.ensures.len))
 
 pub returns-in-Some-clause-opened : goal.returns-in-Some-clause-opened
 returns-in-Some-clause-opened g c =
