@@ -52,7 +52,7 @@ fn agrees_with_a_program_over_tables(rt: HostRuntime) {
         ),
     ];
     for (name, i, want) in rows {
-        assert!(rt; blocks[16 * i..16 * i + 16] == want, "{name}");
+        assert!(rt; &blocks[16 * i..16 * i + 16] == want.as_slice(), "{name}");
     }
     serpent_unblocks(&keys, &mut blocks[..144]);
     assert!(rt; blocks == counting_blocks());
