@@ -6,3 +6,5 @@ pub mod InTurn
 pub mod Stretches
 -- the first tweaks of 8 units at a time
 pub mod Groups
+-- only the first 64 bytes of material for each cipher count
+pub mod Material

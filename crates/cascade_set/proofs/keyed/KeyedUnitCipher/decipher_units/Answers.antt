@@ -31,7 +31,7 @@ loop-i-preserved c =
       ready = λ h. ready_next x y z first count i c.if-i-eq0.tweaks ready h;
       done = goes_on 512 i (512 * i) (512 * i + 512 - 512 * i)
           (λ i u. ghosts.deciphered self.first (first + i)
-      (ghosts.deciphered self.second (first + i) (ghosts.deciphered self.third (first + i) u)))
+          (ghosts.deciphered self.second (first + i) (ghosts.deciphered self.third (first + i) u)))
           c.args.units.now c.loop-i.units c.decipher.new.stretch c.loop-i.invariant.done refl (omega arith) (omega arith)
           (c.decipher.ensures (first + i) (ready.at i c.loop-i-test.true refl)) whole;
     }

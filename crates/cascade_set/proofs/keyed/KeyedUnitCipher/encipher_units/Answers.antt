@@ -31,7 +31,7 @@ loop-i-preserved c =
       ready = λ h. ready_next x y z first count i c.if-i-eq0.tweaks ready h;
       done = goes_on 512 i (512 * i) (512 * i + 512 - 512 * i)
           (λ i u. ghosts.enciphered self.third (first + i)
-      (ghosts.enciphered self.second (first + i) (ghosts.enciphered self.first (first + i) u)))
+          (ghosts.enciphered self.second (first + i) (ghosts.enciphered self.first (first + i) u)))
           c.args.units.now c.loop-i.units c.encipher.new.stretch c.loop-i.invariant.done refl (omega arith) (omega arith)
           (c.encipher.ensures (first + i) (ready.at i c.loop-i-test.true refl)) whole;
     }
