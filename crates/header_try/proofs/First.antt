@@ -1,6 +1,6 @@
 -- Opening over a store that tells its bytes: what the header in the standard slot gives is the first valid candidate.
-use Rattle.std.proofs.Common.{◌≡◌, ℕ, ◌+◌, Bool, List, [], ◌++◌, length, take, Option, Some, None, sym, ap, ap₂, ◌∙◌}
-use Rattle.std.specs.Prelude.{find, map, IfSome, option_map, slice_range}
+use Rattle.std.proofs.Common.{◌≡◌, ℕ, ◌+◌, Bool, true, List, [], ◌++◌, length, take, Option, Some, None, sym, ap, ap₂, ◌∙◌, subst}
+use Rattle.std.specs.Prelude.{◌↔◌, find, map, IfSome, option_map, slice_range}
 use Rattle.std.specs.List.{flat_map}
 use Rattle.kdf_hmac.specs.declared.prf.Prf.{Prf}
 use Rattle.std.proofs.lemmas.List.{append-nil}
@@ -10,6 +10,7 @@ use Rattle.kdf_hmac.specs.Pbkdf2.{derived}
 use Rattle.vc_header.specs.declared.fields.Fields.{Fields}
 use Rattle.algorithm_names.specs.declared.algorithm.Algorithm.{Algorithm}
 use Rattle.algorithm_names.specs.Algorithms.{all_algorithms}
+use Rattle.vc_layout.specs.Layout.{IsContainerLength}
 use Rattle.vc_layout.specs.declared.slots.Slot.{Slot}
 use Rattle.vc_layout.specs.declared.slots.Slot.TheVariants.{Standard}
 use Rattle.vc_header.specs.Header.{is_valid, fields_of}
@@ -25,6 +26,12 @@ pub header_read : (image : Option (List ℕ)) (header : List ℕ) (at n : ℕ) �
 header_read None header at n first long read = tt
 header_read (Some b) header at n first long read =
     read ∙ ap (λ (k : ℕ). slice_range b k (k + n)) first ∙ ap (λ (k : ℕ). slice_range b 0 (0 + k)) long
+
+-- a length that passed the test is in range
+pub in_range : (passed : Bool) (len size : ℕ) → passed ≡ true → (passed ≡ true) ↔ IsContainerLength len → len ≡ size
+    → IsContainerLength size
+in_range passed len size passes decided same =
+    subst (λ (n : ℕ). IsContainerLength n) same (decided.0 passes)
 
 -- the length that was read is the container's
 pub length_read : (image : Option (List ℕ)) (size len : ℕ) → len ≡ size

@@ -51,5 +51,12 @@ fn try_algorithm(
     ensures fields { IfSome result (λ f. f ≡ fields_of (plain_under algorithm derived.now header.now)) }
 {
     validity_is_decided();
-    read_plain(&unseal(algorithm, derived, &header[SALT..]), slot, len)
+    read_plain(&plain(algorithm, derived, header), slot, len)
+}
+
+// The header's body, deciphered.
+fn plain(algorithm: Algorithm, derived: &[u8; 192], header: &[u8; 512]) -> [u8; 448]
+    ensures { result ≡ plain_under algorithm derived.now header.now }
+{
+    unseal(algorithm, derived, &header[SALT..])
 }

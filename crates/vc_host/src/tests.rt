@@ -129,15 +129,15 @@ fn a_file_takes_output_from_its_start(rt: HostRuntime) {
 // A writer whose calls return what the list says, and then take all.
 #[derive(Drop)]
 struct Scripted {
-    answers: [Option<ErrorKind>; 4],
+    results: [Option<ErrorKind>; 4],
     next: usize,
 }
 
 impl Write for Scripted {
     fn write(&mut self, buf: &[u8]) -> io::Result<usize> {
-        let answer = self.answers.get(self.next).copied();
+        let result = self.results.get(self.next).copied();
         self.next = self.next.saturating_add(1);
-        match answer {
+        match result {
             Some(Some(kind)) => Err(io::Error::from(kind)),
             Some(None) => Ok(0),
             None => Ok(buf.len()),
@@ -151,9 +151,9 @@ impl Write for Scripted {
 
 #[test]
 fn only_an_interrupted_call_is_made_again(rt: HostRuntime) {
-    let broken_off = Some(ErrorKind::Interrupted);
+    let interrupted = Some(ErrorKind::Interrupted);
     let mut sink = StreamSink::new(Scripted {
-        answers: [broken_off, broken_off, Some(ErrorKind::WriteZero), None],
+        results: [interrupted, interrupted, Some(ErrorKind::WriteZero), None],
         next: 0,
     });
     assert_eq!(rt; sink.write(b"lost"), Err(OutError::Failed));
