@@ -6,7 +6,7 @@ use Rattle.vc_base.specs.Bytes.{piece}
 use Rattle.cipher_base.specs.Xts.{xts}
 use Rattle.algorithm_names.specs.Algorithms.{ciphers_of}
 use Rattle.cascade_set.specs.Cascade.{block_enciphered, block_deciphered, enciphered, deciphered, enciphered_from, deciphered_from}
-use Rattle.cascade_set.specs.Layers.{by_layer, undone_by_layer, layer_at, layer_undone_at}
+use Rattle.cascade_set.specs.Laws.Layers.{by_layer, undone_by_layer, layer_at, layer_undone_at}
 use Rattle.algorithm_names.specs.declared.algorithm.Algorithm.{Algorithm}
 use Rattle.algorithm_names.specs.declared.algorithm.Algorithm.TheVariants.{Aes, Serpent, Twofish, AesTwofish, AesTwofishSerpent, SerpentAes, SerpentTwofishAes, TwofishSerpent}
 use Rattle.algorithm_names.specs.declared.algorithm.Cipher.{Cipher}

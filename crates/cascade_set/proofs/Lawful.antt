@@ -1,5 +1,5 @@
 -- Each layer is lawful, and so are three in turn.
-use Rattle.cascade_set.specs.Laws.{IsLawful, in_turn_is_lawful, nothing_is_lawful}
+use Rattle.cascade_set.specs.Laws.Lawful.{IsLawful, in_turn_is_lawful, nothing_is_lawful}
 use Rattle.cascade_set.specs.declared.stretch.AnyLayer.{AnyLayer}
 use Rattle.cascade_set.specs.declared.stretch.AnyLayer.TheVariants.{Nothing, Aes, Serpent, Twofish}
 use Rattle.cascade_set.specs.contracts.stretch.AnyLayerStretch.TheImpl.{ghosts}

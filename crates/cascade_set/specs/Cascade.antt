@@ -6,7 +6,7 @@
 --
 -- enciphered keys n stretch     a stretch under data unit n, by each cipher in turn
 -- deciphered keys n stretch     the same undone, so the last cipher first
-use Rattle.std.specs.Prelude.{ℕ, ◌+◌, List, [], ◌∷◌, length}
+use Rattle.std.specs.Prelude.{◌≡◌, ℕ, ◌+◌, ◌*◌, List, [], ◌∷◌, length, take}
 use Rattle.vc_base.specs.Bytes.{piece}
 use Rattle.cipher_base.specs.Xts.{xts}
 use Rattle.aes_core.specs.Aes as aes
@@ -62,3 +62,9 @@ enciphered keys n stretch =
 unfoldable pub deciphered : Keys → ℕ → List ℕ → List ℕ
 deciphered keys n stretch =
     deciphered_from (ciphers_of keys.algorithm) (length (ciphers_of keys.algorithm)) 0 keys.material n stretch
+
+-- the same algorithm, and the same first 64 bytes of material for each of its ciphers
+pub record CountAlike (a b : Keys) : Type 0 where
+  pub algorithm : a.algorithm ≡ b.algorithm
+  pub counted : take (64 * length (ciphers_of a.algorithm)) a.material
+      ≡ take (64 * length (ciphers_of a.algorithm)) b.material

@@ -1,8 +1,6 @@
 -- data units and header bodies under an algorithm
 pub mod Cascade
--- its layers one by one
-pub mod Layers
--- the laws of a cipher of stretches
+-- what ghost items and private contracts cite
 pub mod Laws
 -- the plain volume
 pub mod Volume

@@ -9,7 +9,7 @@
 
 pub use algorithm_names::{Algorithm, Cipher};
 pub use keyed::Keyed;
-pub use keys::Keys;
+pub use keys::{Keys, later_material_is_unused};
 
 pub mod keyed;
 pub mod keys;

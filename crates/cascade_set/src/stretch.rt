@@ -1,12 +1,12 @@
 //! A layer of any cipher, or of none.
-ghost use Rattle.std.specs.Prelude.{◌≡◌, ◌+◌, ◌/◌, ◌%◌, ◌^◌, ◌≤◌, ℕ, List, length};
-ghost use Rattle.vc_base.specs.Bytes.{in_pieces};
+ghost use Rattle.std.specs.Prelude.{◌≡◌, ◌+◌, ◌%◌, ◌^◌, ◌≤◌, ◌<◌, ℕ, List, length};
+ghost use Rattle.vc_base.specs.Bytes.{piece, to_bytes};
 ghost use Rattle.cipher_base.specs.Xts.{xts};
 ghost use Rattle.cascade_set.specs.declared.stretch.AnyLayer.TheVariants.{Nothing, Aes, Serpent, Twofish};
 
-use crate::layer::Layer;
+use crate::layer::{Layer, numbers};
 use aes_core::Aes256;
-use cipher_base::{BlockCipher, UnitCipher};
+use cipher_base::BlockCipher;
 use serpent_core::Serpent256;
 use twofish_core::Twofish256;
 
@@ -18,21 +18,30 @@ pub(crate) trait Stretch {
     // The stretch that it came from.
     ghost deciphered: { Self → ℕ → List ℕ → List ℕ };
 
-    fn encipher_units(&self, first: u64, units: &mut [u8])
-        requires whole { length units.old % 512 ≡ 0 }
-        requires within { first + length units.old / 512 ≤ 2 ^ 55 }
-        ensures { units.new ≡ in_pieces 512 (λ i u. enciphered self.now (first + i) u) units.old };
+    // T_0 of a number.
+    ghost first_tweak: { Self → ℕ → List ℕ };
 
-    fn decipher_units(&self, first: u64, units: &mut [u8])
-        requires whole { length units.old % 512 ≡ 0 }
-        requires within { first + length units.old / 512 ≤ 2 ^ 55 }
-        ensures { units.new ≡ in_pieces 512 (λ i u. deciphered self.now (first + i) u) units.old };
+    /// T_0 of up to 8 units, one after the other, of which the first has the number `unit`.
+    fn first_tweaks(&self, unit: u64, count: usize) -> [u8; 128]
+        requires few { count ≤ 8 }
+        requires within { unit + count < 2 ^ 64 }
+        ensures { (j : ℕ) → j < count → piece 16 j result ≡ first_tweak self.now (unit + j) };
 
-    fn encipher_body(&self, body: &mut [u8; 448])
-        ensures { body.new ≡ enciphered self.now 0 body.old };
+    /// Enciphers a stretch of up to 32 blocks, whose T_0 is the j-th of these.
+    fn encipher(&self, tweaks: &[u8; 128], j: usize, stretch: &mut [u8])
+        requires place { j < 8 }
+        requires whole { length stretch.old % 16 ≡ 0 }
+        requires short { length stretch.old ≤ 512 }
+        ensures { (n : ℕ) → piece 16 j tweaks.now ≡ first_tweak self.now n
+            → stretch.new ≡ enciphered self.now n stretch.old };
 
-    fn decipher_body(&self, body: &mut [u8; 448])
-        ensures { body.new ≡ deciphered self.now 0 body.old };
+    /// Deciphers a stretch of up to 32 blocks, whose T_0 is the j-th of these.
+    fn decipher(&self, tweaks: &[u8; 128], j: usize, stretch: &mut [u8])
+        requires place { j < 8 }
+        requires whole { length stretch.old % 16 ≡ 0 }
+        requires short { length stretch.old ≤ 512 }
+        ensures { (n : ℕ) → piece 16 j tweaks.now ≡ first_tweak self.now n
+            → stretch.new ≡ deciphered self.now n stretch.old };
 }
 
 /// A layer of one of the ciphers, or of none, which changes nothing.
@@ -59,39 +68,37 @@ impl Stretch for AnyLayer {
       | Twofish l ↦ xts (⟦<Twofish256 as BlockCipher>⟧.deciphered l.cipher.main) (⟦<Twofish256 as BlockCipher>⟧.enciphered l.cipher.tweak) n s
     ] };
 
-    fn encipher_units(&self, first: u64, units: &mut [u8]) {
+    ghost first_tweak = { λ c n. elim c as (λ _. List ℕ) [
+      | Nothing ↦ to_bytes 16 n
+      | Aes l ↦ ⟦<Aes256 as BlockCipher>⟧.enciphered l.cipher.tweak (to_bytes 16 n)
+      | Serpent l ↦ ⟦<Serpent256 as BlockCipher>⟧.enciphered l.cipher.tweak (to_bytes 16 n)
+      | Twofish l ↦ ⟦<Twofish256 as BlockCipher>⟧.enciphered l.cipher.tweak (to_bytes 16 n)
+    ] };
+
+    fn first_tweaks(&self, unit: u64, count: usize) -> [u8; 128] {
         match self {
-            AnyLayer::Nothing => {}
-            AnyLayer::Aes(layer) => layer.cipher.encipher_units(first, units),
-            AnyLayer::Serpent(layer) => layer.cipher.encipher_units(first, units),
-            AnyLayer::Twofish(layer) => layer.cipher.encipher_units(first, units),
+            AnyLayer::Nothing => numbers(unit, count),
+            AnyLayer::Aes(layer) => layer.first_tweaks(unit, count),
+            AnyLayer::Serpent(layer) => layer.first_tweaks(unit, count),
+            AnyLayer::Twofish(layer) => layer.first_tweaks(unit, count),
         }
     }
 
-    fn decipher_units(&self, first: u64, units: &mut [u8]) {
+    fn encipher(&self, tweaks: &[u8; 128], j: usize, stretch: &mut [u8]) {
         match self {
             AnyLayer::Nothing => {}
-            AnyLayer::Aes(layer) => layer.cipher.decipher_units(first, units),
-            AnyLayer::Serpent(layer) => layer.cipher.decipher_units(first, units),
-            AnyLayer::Twofish(layer) => layer.cipher.decipher_units(first, units),
+            AnyLayer::Aes(layer) => layer.encipher(tweaks, j, stretch),
+            AnyLayer::Serpent(layer) => layer.encipher(tweaks, j, stretch),
+            AnyLayer::Twofish(layer) => layer.encipher(tweaks, j, stretch),
         }
     }
 
-    fn encipher_body(&self, body: &mut [u8; 448]) {
+    fn decipher(&self, tweaks: &[u8; 128], j: usize, stretch: &mut [u8]) {
         match self {
             AnyLayer::Nothing => {}
-            AnyLayer::Aes(layer) => layer.cipher.encipher_stretch(0, body),
-            AnyLayer::Serpent(layer) => layer.cipher.encipher_stretch(0, body),
-            AnyLayer::Twofish(layer) => layer.cipher.encipher_stretch(0, body),
-        }
-    }
-
-    fn decipher_body(&self, body: &mut [u8; 448]) {
-        match self {
-            AnyLayer::Nothing => {}
-            AnyLayer::Aes(layer) => layer.cipher.decipher_stretch(0, body),
-            AnyLayer::Serpent(layer) => layer.cipher.decipher_stretch(0, body),
-            AnyLayer::Twofish(layer) => layer.cipher.decipher_stretch(0, body),
+            AnyLayer::Aes(layer) => layer.decipher(tweaks, j, stretch),
+            AnyLayer::Serpent(layer) => layer.decipher(tweaks, j, stretch),
+            AnyLayer::Twofish(layer) => layer.decipher(tweaks, j, stretch),
         }
     }
 }

@@ -1,7 +1,8 @@
 -- The formulas of the boxes, step by step as in the code, held against their tables.
 use Rattle.std.proofs.Common.{◌≡◌, true, refl}
-use Rattle.lane_kernels.specs.SerpentRounds.{entry, inverse_entry, number_below}
-use Rattle.lane_kernels.proofs.EachNumber.{agree_below}
+use Rattle.lane_kernels.specs.SerpentRounds.{entry, inverse_entry}
+use Rattle.vc_base.specs.Bits.{number_below}
+use Rattle.vc_base.proofs.EachNumber.{agree_below}
 use Rattle.lane_kernels.proofs.Substituted.{entry_modulo, inverse_entry_modulo}
 use Rattle.lane_kernels.proofs.Formula.{Formula, word_0, word_1, word_2, word_3, odd, both, either, neither, Formulas, made_of, Computes, computes}
 

@@ -1,11 +1,12 @@
 -- Blocks in groups of eight.
 --
 -- A list that was treated group by group, each group block by block, was treated block by block.
-use Rattle.std.proofs.Common.{◌≡◌, ◌<◌, ◌≤◌, ◌+◌, ◌-◌, ◌*◌, ◌/◌, List, ◌++◌, ℕ, zero, suc, length, take, drop, refl, sym, ap, ap₂, subst, ◌∙◌, arith}
+use Rattle.std.proofs.Common.{◌≡◌, ◌<◌, ◌≤◌, ◌+◌, ◌-◌, ◌*◌, ◌/◌, List, ◌++◌, ℕ, zero, suc, length, take, drop, refl, sym, ap, ap₂, subst, ◌∙◌, arith, length-take-le, length-drop}
 use Rattle.std.proofs.lemmas.List.{take-take, drop-take, drop-drop}
 use Rattle.vc_base.specs.Bytes.{piece, joined, in_pieces}
 use Rattle.vc_base.proofs.Pieces.{joined-add, joined_suc, joined_none, joined_same, in_pieces-joined, length-piece}
-use Rattle.cipher_base.proofs.Loops.{Done}
+use borrow.Rule.Slice.PartMut.{put_mid}
+use Rattle.cipher_base.proofs.Loops.{Done, goes_on}
 use Rattle.lane_kernels.specs.SerpentRounds.{block}
 use Rattle.lane_kernels.specs.Laws.Lanes.{lane}
 
@@ -57,3 +58,16 @@ regrouped i q f old now count inside done =
           (done.front ∙ by_groups f old i inside ∙ ap (joined (λ k. f (piece 16 k old))) (sym count));
       rest = subst (λ (n : ℕ). drop n now ≡ drop n old) place done.rest;
     }
+
+-- one group more
+pub group_more : (i k : ℕ) (f : List ℕ → List ℕ) (old now new : List ℕ)
+    → Done 128 i (λ _ p. in_pieces 16 (λ _ b. f b) p) old now → k ≡ 128 → 128 * (i + 1) ≤ length old
+    → new ≡ in_pieces 16 (λ _ b. f b) (take k (drop (128 * i) now))
+    → length new ≡ length (take k (drop (128 * i) now))
+    → Done 128 (i + 1) (λ _ p. in_pieces 16 (λ _ b. f b) p) old (put_mid (128 * i) k now new)
+group_more i k f old now new done count inside made long =
+    let same : length now ≡ length old = done.long in
+    let group : length (take k (drop (128 * i) now)) ≡ k
+    = length-take-le k (drop (128 * i) now) (omega (arith, length-drop (128 * i) now)) in
+    goes_on 128 i (128 * i) k (λ _ p. in_pieces 16 (λ _ b. f b) p) old now new done refl count inside
+    made (long ∙ group ∙ count)

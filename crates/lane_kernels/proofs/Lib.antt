@@ -1,7 +1,5 @@
--- functions that agree at each number below a limit, by computing
-pub mod EachNumber
--- numbers by their bits, nibbles by their four bits
-pub mod Bits
+-- nibbles by their four bits
+pub mod Nibbles
 -- lists of four words
 pub mod States
 -- boxes on states

@@ -15,8 +15,9 @@
 -- add_key ks i x                   the state x with round key i of ks added
 -- cipher ks b                      what the block b becomes under the round keys ks
 -- inverse_cipher ks b              the block that it came from
-use Rattle.std.specs.Prelude.{◌≡◌, ◌<◌, ℕ, zero, suc, ◌+◌, ◌-◌, ◌*◌, ◌%◌, ◌^◌, ◌==◌, Bool, if◌then◌else◌, List, [], ◌∷◌, ◌++◌, length, slice_index, slice_index_or, bit_xor}
+use Rattle.std.specs.Prelude.{◌≡◌, ◌<◌, ℕ, zero, suc, ◌+◌, ◌-◌, ◌*◌, ◌%◌, ◌^◌, ◌==◌, List, [], ◌∷◌, ◌++◌, length, slice_index, slice_index_or, bit_xor}
 use Rattle.std.specs.Int.{w32, bit_at, rotate_left, rotate_right}
+use Rattle.vc_base.specs.Bits.{of_bits, number_below}
 use Rattle.vc_base.specs.Bytes.{from_bytes, to_bytes, piece}
 
 -- xs are n words
@@ -42,19 +43,9 @@ entries =
 unfoldable pub entry : ℕ → ℕ → ℕ
 entry k n = slice_index entries (16 * (k % 8) + n)
 
--- the number below n that passes a test which at most one passes, or 0 where none does
-unfoldable pub number_below : ℕ → (ℕ → Bool) → ℕ
-number_below zero test = 0
-number_below (suc n) test = if test n then n else number_below n test
-
 -- the nibble whose entry is n
 unfoldable pub inverse_entry : ℕ → ℕ → ℕ
 inverse_entry k n = number_below 16 (λ m. entry k m == n)
-
--- the number whose n lowest bits are f 0, f 1, .., f (n - 1), and whose others are 0
-unfoldable pub of_bits : (ℕ → ℕ) → ℕ → ℕ
-of_bits f zero = 0
-of_bits f (suc n) = f n * 2 ^ n + of_bits f n
 
 -- the nibble of place i: its lowest bit is that of word 0, its highest that of word 3
 abbrev pub nibble : List ℕ → ℕ → ℕ

@@ -53,3 +53,6 @@ pub fn serpent_unblocks(keys: &SerpentKeys, blocks: &mut [u8])
         piece.copy_from_slice(&decipher(keys, block));
     }
 }
+
+#[cfg(test)]
+mod tests;

@@ -59,3 +59,52 @@ fn doubled(low: u64, high: u64) -> (u64, u64)
         (high << 1) | (low >> 63),
     )
 }
+
+#[cfg(test)]
+mod tests {
+    use super::*;
+
+    // Of 1, block j has bit j alone. Of x^127, block 0 has the highest bit alone, and block j + 1 is
+    // 87 times x^j.
+    #[test]
+    fn runs_double_their_tweak(rt: HostRuntime) {
+        let mut one = [0; 16];
+        one[0] = 1;
+        let mut highest = [0; 16];
+        highest[15] = 0x80;
+        let mut of_one = [0xff; 512];
+        let mut of_highest = [0xff; 512];
+        tweak_run(&one, &mut of_one);
+        tweak_run(&highest, &mut of_highest);
+        for (block, at, byte) in [(0, 0, 0x01), (1, 0, 0x02), (8, 1, 0x01), (31, 3, 0x80)] {
+            let mut want = [0; 16];
+            want[at] = byte;
+            assert!(rt;
+                &of_one[16 * block..16 * block + 16] == want.as_slice(),
+                "{block}"
+            );
+        }
+        assert!(rt; &of_highest[..16] == highest.as_slice());
+        for (block, first, second) in [(1, 0x87, 0x00), (2, 0x0e, 0x01), (8, 0x80, 0x43)] {
+            let mut want = [0; 16];
+            want[0] = first;
+            want[1] = second;
+            assert!(rt;
+                &of_highest[16 * block..16 * block + 16] == want.as_slice(),
+                "{block}"
+            );
+        }
+    }
+
+    #[test]
+    fn masks_of_any_length_are_added(rt: HostRuntime) {
+        for len in [0, 1, 16, 17, 64] {
+            let mut bytes = [0x0f; 64];
+            xor_into(&mut bytes[..len], &[0xff; 64][..len]);
+            for i in 0..64 {
+                let want = if i < len { 0xf0 } else { 0x0f };
+                assert!(rt; bytes[i] == want, "{i} of {len}");
+            }
+        }
+    }
+}

@@ -2,7 +2,7 @@
 --
 -- Each step of a round is undone by its inverse on states. The inverse cipher after n rounds back
 -- is at what the cipher has after 31 - n rounds, and the other way round.
-use Rattle.std.proofs.Common.{◌≡◌, ◌<◌, ◌+◌, ◌-◌, ◌^◌, List, [], ◌∷◌, ℕ, zero, suc, slice_index, slice_index_or, refl, sym, ap, ap₂, ◌∙◌, subst, arith, bit_xor}
+use Rattle.std.proofs.Common.{◌≡◌, ◌<◌, ◌+◌, ◌-◌, ◌^◌, List, [], ◌∷◌, ℕ, zero, suc, slice_index, slice_index_or, refl, sym, ap, ap₂, ◌∙◌, arith, bit_xor}
 use Rattle.std.proofs.lemmas.Nat.{xor_lt}
 use Rattle.vc_base.specs.Bytes.{IsBytes}
 use Rattle.vc_base.proofs.Xor.{xor_cancel}

@@ -1,8 +1,8 @@
-use Rattle.std.proofs.Common.{◌+◌, ◌-◌, ◌*◌, drop, length, refl, ap, ◌∙◌, arith, length-take-le, length-drop}
+use Rattle.std.proofs.Common.{◌+◌, ◌-◌, ◌*◌, length, refl, ap, ◌∙◌, arith}
 use Rattle.cipher_base.proofs.Loops.{starts, goes_on, ends}
 use Rattle.lane_kernels.specs.SerpentRounds.{cipher}
 use Rattle.lane_kernels.proofs.Blocks.{cipher-bytes}
-use Rattle.lane_kernels.proofs.Groups.{regrouped}
+use Rattle.lane_kernels.proofs.Groups.{regrouped, group_more}
 use Rattle.lane_kernels.proofs.serpent.serpent_blocks.Goals as goal
 
 pub loop-i-init : goal.loop-i-init
@@ -11,11 +11,8 @@ loop-i-init c = starts _ _ _ _ refl
 pub loop-i-preserved : goal.loop-i-preserved
 loop-i-preserved c =
     let i = c.loop-i.i in
-    let group = length-take-le (128 * i + 128 - 128 * i) (drop (128 * i) c.loop-i.blocks)
-    (omega (arith, length-drop (128 * i) c.loop-i.blocks)) in
-    goes_on 128 i (128 * i) (128 * i + 128 - 128 * i) _ _ _ c.encipher_eight.new.group
-    c.loop-i.invariant refl (omega arith) (omega arith) c.encipher_eight.ensures
-    (omega (arith, group))
+    group_more i (128 * i + 128 - 128 * i) (cipher c.args.keys.now.k) _ _ c.encipher_eight.new.group
+    c.loop-i.invariant (omega arith) (omega arith) c.encipher_eight.ensures (omega arith)
 
 pub loop-j-init : goal.loop-j-init
 loop-j-init c =

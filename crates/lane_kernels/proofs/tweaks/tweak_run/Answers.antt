@@ -17,7 +17,6 @@ loop-i-init c =
 
 pub loop-i-preserved : goal.loop-i-preserved
 loop-i-preserved c =
-    let bytes : IsBytes 16 c.args.t.now = record { count = c.told-t; each = λ i. c.fits-t i } in
     let inv = c.loop-i.invariant in
     let long = inv.long in
     let i = c.loop-i.i in
@@ -25,7 +24,7 @@ loop-i-preserved c =
     let written : c.write_words.new.block ≡ times_power i first = c.write_words.ensures ∙ inv.power in
     let whole : length c.write_words.new.block ≡ 16 = ap length written ∙ (IsBytes-times_power i first).count in
     record {
-      power = times_power_next i (c.loop-i.low + 2 ^ 64 * c.loop-i.high) _ first bytes (omega arith) inv.power inv.fits c.doubled.ensures;
+      power = times_power_next i (c.loop-i.low + 2 ^ 64 * c.loop-i.high) _ first inv.power inv.fits c.doubled.ensures;
       fits = next_below (c.loop-i.low + 2 ^ 64 * c.loop-i.high) _ inv.fits c.doubled.ensures;
       long = length-put_mid (16 * i) (16 * i + 16 - 16 * i) c.loop-i.out c.write_words.new.block (omega arith) (omega arith) ∙ long;
       filled = filled_more 16 i (16 * i) (16 * i + 16 - 16 * i) (λ j. times_power j first) c.loop-i.out

@@ -1,4 +1,4 @@
-use Rattle.std.proofs.Common.{ap, subst, ◌∙◌, ℕ, List}
+use Rattle.std.proofs.Common.{ap, subst, ◌∙◌, ℕ, List, arith}
 use Rattle.vc_base.specs.Bytes.{IsBytes}
 use Rattle.cascade_set.specs.contracts.stretch.AnyLayerStretch.TheImpl.{ghosts}
 use Rattle.cascade_set.proofs.keyed.Keyed.header.Goals as goal
@@ -8,7 +8,7 @@ returns-clause-undone c =
     let self = c.args.self.now in
     let body : IsBytes 448 c.args.body.now
     = subst (λ (n : ℕ). IsBytes n c.args.body.now) c.told-body c.bytes_are_known.ensures in
-    ap (λ (s : List ℕ). ghosts.deciphered self.first 0 (ghosts.deciphered self.second 0 (ghosts.deciphered self.third 0 s)))
-    (c.encipher_body-3.ensures
-    ∙ ap (ghosts.enciphered self.third 0) (c.encipher_body-2.ensures ∙ ap (ghosts.enciphered self.second 0) c.encipher_body.ensures))
+    ap (λ (s : List ℕ). ghosts.deciphered self.first 0
+    (ghosts.deciphered self.second 0 (ghosts.deciphered self.third 0 s)))
+    (c.encipher.ensures 0 (c.first_tweaks.ensures 0 (omega arith)))
     ∙ self.lawful.deciphers 28 0 c.args.body.now body

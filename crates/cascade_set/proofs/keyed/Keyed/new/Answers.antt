@@ -1,5 +1,5 @@
 use Rattle.std.proofs.Common.{ap, ◌∙◌}
-use Rattle.cascade_set.specs.Layers.{layer_at, layer_undone_at}
+use Rattle.cascade_set.specs.Laws.Layers.{layer_at, layer_undone_at}
 use Rattle.cascade_set.proofs.InTurn.{in_turn, undone_in_turn}
 use Rattle.cascade_set.proofs.Lawful.{three_are_lawful}
 use Rattle.cascade_set.proofs.keyed.Keyed.new.Goals as goal

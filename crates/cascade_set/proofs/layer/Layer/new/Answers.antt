@@ -1,4 +1,4 @@
-use Rattle.cascade_set.specs.Laws.{xts_is_lawful}
+use Rattle.cascade_set.specs.Laws.Lawful.{xts_is_lawful}
 use Rattle.cascade_set.proofs.layer.Layer.new.Goals as goal
 
 pub invariant_of-result : goal.invariant_of-result
