@@ -1,0 +1,18 @@
+//! The lock itself, as `new` makes it and `close` ends it.
+ghost use Rattle.std.specs.Prelude.{◌≡◌};
+
+use crate::view::{Law, View};
+use atomic_table::Table;
+use hist_standing::Standing;
+use std::alloc::Global;
+use std::snapshot::Snapshot;
+use std::sync::atomic::AtomicU64;
+
+/// One value that threads use in turns. In proofs alone it has one history, in which each turn adds its entries.
+pub struct HistLock<T: Standing> {
+    pub(crate) table: Table<Option<T>, View<T, T::Entry>, Snapshot<T>, Law, Global>,
+    /// How many threads sleep, or are about to. No clause rests on it.
+    pub(crate) sleepers: AtomicU64,
+    ghost words: { table.shared.table_id.words ≡ 3 },
+    ghost slots: { table.shared.table_id.slots ≡ 1 },
+}
