@@ -45,7 +45,7 @@ module _ {T E : Type 0} where
   looked stands number st m n m' = (n ≡ m.0.ticket → Holds stands number m m') × (n ≢ m.0.ticket → m' ≡ m)
 
   abbrev pub done : List E → View T E → View T E
-  done es v = record v { seen = v.seen ++ es; mine = v.mine ++ es; drawn = false; holds = false }
+  done es v = record v { seen = v.seen ++ es; mine = v.mine ++ es; drawn = false; holds = false; met = met_nobody }
 
   abbrev pub passed : List E → Step (Option T) → Sat T E → ℕ → Sat T E → Type 0
   passed es st m n m' = m' ≡ (done es m.0, [])

@@ -1,0 +1,8 @@
+-- sums over lists, one place of which changes
+pub mod Sums
+-- histories: prefixes, and the entries under a number
+pub mod Entries
+-- one step changes one view: the rule after it
+pub mod Changes
+-- draw, look, take, put back and pass on
+pub mod Turns
