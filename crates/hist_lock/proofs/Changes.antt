@@ -53,6 +53,7 @@ module _ {T E : Type 0} (number : E → ℕ) where
     cut = k.cut;
     knows_given = omega arith;
     numbers = k.numbers;
+    spare_known = k.spare_known;
     waits = λ d. let q = k.waits d in (q.0, omega arith);
     holder = k.holder;
     joined = k.joined;

@@ -54,6 +54,10 @@ module _ {E : Type 0} (number : E → ℕ) where
   pub entries_before : (n : ℕ) (log seen rest : List E) → log ≡ seen ++ rest → entries number n rest ≡ [] → entries number n log ≡ entries number n seen
   entries_before n log seen rest e none = ap (entries number n) e ∙ (entries-append n seen rest ∙ (ap (λ l. entries number n seen ++ l) none ∙ append-nil (entries number n seen)))
 
+  nothing_after : (xs ys : List E) → xs ++ ys ≡ [] → ys ≡ []
+  nothing_after [] ys e = e
+  nothing_after (x ∷ xs) ys e = cc
+
   nothing : (xs ys : List E) → xs ++ ys ≡ [] → xs ≡ []
   nothing [] ys e = refl
   nothing (x ∷ xs) ys e = cc
@@ -61,3 +65,7 @@ module _ {E : Type 0} (number : E → ℕ) where
   -- a list between two prefixes has none where the rest after the first has none
   pub entries_between : (n : ℕ) (r m q : List E) → r ≡ m ++ q → entries number n r ≡ [] → entries number n m ≡ []
   entries_between n r m q e none = nothing (entries number n m) (entries number n q) (sym (entries-append n m q) ∙ (ap (entries number n) (sym e) ∙ none))
+
+  -- a suffix has none where the list has none
+  pub entries_after : (n : ℕ) (log seen rest : List E) → log ≡ seen ++ rest → entries number n log ≡ [] → entries number n rest ≡ []
+  entries_after n log seen rest e none = nothing_after (entries number n seen) (entries number n rest) (sym (entries-append n seen rest) ∙ (ap (entries number n) (sym e) ∙ none))

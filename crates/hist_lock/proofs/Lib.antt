@@ -6,3 +6,5 @@ pub mod Entries
 pub mod Changes
 -- draw, look, take, put back and pass on
 pub mod Turns
+-- a number is given, and a pass is split
+pub mod Splitting

@@ -36,7 +36,7 @@ module _ {T E : Type 0} (stands : T → List E → T → Type 0) (number : E →
   St = State (Option T) (View T E)
 
   -- someone has still seen the whole history, where the changed pass has seen as much as before
-  same_last : (s : St) (r : Kept stands number s) (id : ℕ) (v w : V) → get_elem? s.views id ≡ some v → w.live ≡ true → w.seen ≡ v.seen
+  pub same_last : (s : St) (r : Kept stands number s) (id : ℕ) (v w : V) → get_elem? s.views id ≡ some v → w.live ≡ true → w.seen ≡ v.seen
       → (i : ℕ) × (u : V) × (get_elem? (set s.views id w) i ≡ some u) × (u.live ≡ true) × (u.seen ≡ r.log)
   same_last s r id v w at live same = let l = r.last in dite (ℕ_discrete l.0 id)
       (λ e. let x : v ≡ l.1 = some-injective v l.1 (sym at ∙ (sym (ap (λ i. get_elem? s.views i) e) ∙ l.2)) in
@@ -44,13 +44,13 @@ module _ {T E : Type 0} (stands : T → List E → T → Type 0) (number : E →
       (λ ne. (l.0, l.1, set_else s.views id l.0 w ne ∙ l.2, l.3, l.4))
 
   -- the holder is another pass
-  elsewhere : (s : St) (r : Kept stands number s) (id : ℕ) (v : V) (a : Away s.homes s.views) → get_elem? s.views id ≡ some v → v.holds ≡ false → a.seat ≡ id → ⊥
+  pub elsewhere : (s : St) (r : Kept stands number s) (id : ℕ) (v : V) (a : Away s.homes s.views) → get_elem? s.views id ≡ some v → v.holds ≡ false → a.seat ≡ id → ⊥
   elsewhere s r id v a at not e =
       let x : v ≡ a.known = some-injective v a.known (sym at ∙ (sym (ap (λ i. get_elem? s.views i) e) ∙ a.at)) in
       let f : false ≡ true = sym not ∙ (ap (λ (z : V). z.holds) x ∙ a.holds) in cc
 
   -- where the value is, if the changed pass has it as before
-  same_place : (s : St) (r : Kept stands number s) (id : ℕ) (v w : V) → get_elem? s.views id ≡ some v → v.live ≡ true → v.holds ≡ false → w.holds ≡ false
+  pub same_place : (s : St) (r : Kept stands number s) (id : ℕ) (v w : V) → get_elem? s.views id ≡ some v → v.live ≡ true → v.holds ≡ false → w.holds ≡ false
       → Home stands r.base r.log s.homes (set s.views id w) ⊎ Away s.homes (set s.views id w)
   same_place s r id v w at live not still = ⊎_elim
       (λ (h : Home stands r.base r.log s.homes s.views). inl record {
@@ -98,6 +98,7 @@ module _ {T E : Type 0} (stands : T → List E → T → Type 0) (number : E →
                 cut = k.cut;
                 knows_given = k.knows_given;
                 numbers = k.numbers;
+                spare_known = k.spare_known;
                 waits = λ _. let z : w.ticket ≡ x = refl in (omega arith, omega arith);
                 holder = λ (h : v.holds ≡ true). let none : false ≡ true = sym empty ∙ h in cc;
                 joined = k.joined;
@@ -160,6 +161,7 @@ module _ {T E : Type 0} (stands : T → List E → T → Type 0) (number : E →
                 cut = k.cut;
                 knows_given = k.knows_given;
                 numbers = k.numbers;
+                spare_known = k.spare_known;
                 waits = k.waits;
                 holder = λ _. (drawn, mine, refl);
                 joined = met_nothing r.log;
@@ -208,6 +210,7 @@ module _ {T E : Type 0} (stands : T → List E → T → Type 0) (number : E →
         cut = k.cut;
         knows_given = k.knows_given;
         numbers = k.numbers;
+        spare_known = k.spare_known;
         waits = λ d. let q = k.waits d in let z = later_ticket d in (omega arith, q.1);
         holder = λ h. let q = k.holder h in absurd (later_ticket q.0 q.1);
         joined = k.joined;
@@ -260,6 +263,7 @@ module _ {T E : Type 0} (stands : T → List E → T → Type 0) (number : E →
             cut = k.cut;
             knows_given = k.knows_given;
             numbers = k.numbers;
+            spare_known = k.spare_known;
             waits = λ (d : false ≡ true). cc;
             holder = λ (d : false ≡ true). cc;
             joined = met_nothing (v.seen ++ es);

@@ -49,6 +49,7 @@ module _ {T E : Type 0} where
     pub cut : v.halvings ≤ top
     pub knows_given : v.given ≤ given
     pub numbers : All (λ n. n < v.given) (numbers_of v)
+    pub spare_known : All (λ n. n < v.given) v.spare
     pub waits : v.drawn ≡ true → (serving ≤ v.ticket) × (v.ticket < tickets)
     pub holder : v.holds ≡ true → (v.drawn ≡ true) × (v.ticket ≡ serving) × (v.seen ≡ log)
     pub joined : Joined number v.seen v.met
