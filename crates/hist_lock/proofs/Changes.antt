@@ -2,7 +2,7 @@
 --
 -- `Change` says what has to hold of such a step, and `changed` that the rule holds after it. The sums of
 -- shares and names change by that one view; each other pass must know its facts of the new state.
-use Rattle.std.proofs.Common.{◌≡◌, ◌≢◌, ◌⊎◌, ℕ, zero, suc, ◌+◌, ◌-◌, ◌*◌, ◌^◌, ◌<◌, ◌≤◌, if◌then◌else◌, true, false, cond, List, [], ◌∷◌, ◌++◌, length, get_or, set, refl, sym, ap, ◌∙◌, subst, inl, inr, ⊎_elim, All, Contains, arith}
+use Rattle.std.proofs.Common.{◌≡◌, ◌≢◌, ◌⊎◌, ℕ, zero, suc, ◌+◌, ◌-◌, ◌*◌, ◌^◌, ◌<◌, ◌≤◌, if◌then◌else◌, Bool, true, false, cond, mul-zero, List, [], ◌∷◌, ◌++◌, length, get_or, set, refl, sym, ap, ◌∙◌, subst, inl, inr, ⊎_elim, All, Contains, arith}
 use Rattle.std.specs.Prelude.{Option, Some}
 use mathlib.Core.Logic.{dite}
 use mathlib.Core.Option.{none, some, some-injective}
@@ -12,12 +12,16 @@ use lib.ListN.{get_elem?}
 use lib.Seq.{set-get_or}
 use Rattle.atomic_table.specs.Table.{State, keeps, stepped}
 use Rattle.atomic_table.proofs.Lists.{at_set, set_again, set_here, set_else}
+use Rattle.std.proofs.lemmas.Nat.{pow-add}
 use Rattle.hist_lock.specs.declared.view.View.{View}
 use Rattle.hist_lock.specs.History.{StartsWith, entries, SameUnder}
 use Rattle.hist_lock.specs.Known.{numbers_of}
 use Rattle.hist_lock.specs.Laws.Rule.{total, below, share, named, Joined, Knows, Home, Away, Kept}
 use Rattle.hist_lock.specs.Laws.Steps.{Sat}
 use Rattle.hist_lock.proofs.Sums.{total-set, two_at_most, is, below_once, contained}
+
+crossed : (a b c : ℕ) → a * (b * c) ≡ b * (a * c)
+crossed a b c = omega arith
 
 module _ {T E : Type 0} where
   pub share_live : (top : ℕ) (v : View T E) → v.live ≡ true → share top v ≡ v.part * 2 ^ (top - v.halvings)
@@ -133,3 +137,38 @@ module _ {T E : Type 0} (stands : T → List E → T → Type 0) (number : E →
   foreign s r i j v u n ne at there lv lu a b =
       let most = two_at_most (named (is n)) s.views i j v u ne at there in
       let p = named_live (is n) v lv in let q = named_live (is n) u lu in let all = r.names (is n) in let once = below_once n r.given in omega arith
+
+-- Shares in smaller units.
+module _ {T E : Type 0} where
+  share_dead : (top : ℕ) (v : View T E) → v.live ≡ false → share top v ≡ 0
+  share_dead top v dead = ap (λ b. if b then v.part * 2 ^ (top - v.halvings) else 0) dead
+
+  finer_at : (b : Bool) (k top : ℕ) (u : View T E) → u.live ≡ b → (u.live ≡ true → u.halvings ≤ top) → share (k + top) u ≡ 2 ^ k * share top u
+  finer_at true k top u live cut = let c : u.halvings ≤ top = cut live in
+      let d : (k + top) - u.halvings ≡ k + (top - u.halvings) = omega arith in
+      let e : 2 ^ ((k + top) - u.halvings) ≡ 2 ^ k * 2 ^ (top - u.halvings) = ap (λ z. 2 ^ z) d ∙ pow-add 2 k (top - u.halvings) in
+      share_live (k + top) u live ∙ (ap (λ z. u.part * z) e ∙ (crossed u.part (2 ^ k) (2 ^ (top - u.halvings)) ∙ ap (λ z. 2 ^ k * z) (sym (share_live top u live))))
+  finer_at false k top u dead cut = let p = share_dead (k + top) u dead in let q = share_dead top u dead in
+      p ∙ (sym (mul-zero (2 ^ k)) ∙ ap (λ z. 2 ^ k * z) (sym q))
+
+  -- in units 2^k times as small a share is 2^k times as many
+  pub finer : (k top : ℕ) (u : View T E) → (u.live ≡ true → u.halvings ≤ top) → share (k + top) u ≡ 2 ^ k * share top u
+  finer k top u cut = finer_at u.live k top u refl cut
+
+module _ {T E : Type 0} (number : E → ℕ) where
+  pub raised : (base : T) (log : List E) (k top t g n : ℕ) (u : View T E) → Knows number base log top t g n u → Knows number base log (k + top) t g n u
+  raised base log k top t g n u known = let cut : u.halvings ≤ top = known.cut in record {
+    based = known.based;
+    rest = known.rest;
+    prefix = known.prefix;
+    ended = known.ended;
+    unused = known.unused;
+    some_share = known.some_share;
+    cut = omega arith;
+    knows_given = known.knows_given;
+    numbers = known.numbers;
+    spare_known = known.spare_known;
+    waits = known.waits;
+    holder = known.holder;
+    joined = known.joined;
+  }

@@ -21,7 +21,7 @@ use Rattle.hist_lock.specs.Laws.Rule.{total, below, share, named, Joined, Knows,
 use Rattle.hist_lock.specs.Laws.Steps.{Sat, numbered, gave, first_of, kept_half, new_half}
 use Rattle.hist_lock.proofs.Sums.{total-append, total-set, total-scaled, is, contained, is_same}
 use Rattle.hist_lock.proofs.Entries.{entries-fresh, entries_between, entries_after}
-use Rattle.hist_lock.proofs.Changes.{share_live, named_live, at_change, in_range, later, Change, changed, unmoved}
+use Rattle.hist_lock.proofs.Changes.{share_live, named_live, finer, at_change, in_range, later, raised, Change, changed, unmoved}
 use Rattle.hist_lock.proofs.Turns.{same_last, same_place, met_nothing, elsewhere}
 
 only_at : (x n k : ℕ) → k < 1 → get_or (x ∷ []) k n ≡ n → x ≡ n
@@ -35,6 +35,10 @@ only x n c = only_at x n c.0 c.1 c.2
 one_below : (x i d : ℕ) → i < 1 → get_or (x ∷ []) i d < x + 1
 one_below x zero d lt = omega arith
 one_below x (suc i) d lt = absurd (omega arith)
+
+one_under : (x g i d : ℕ) → x < g → i < 1 → get_or (x ∷ []) i d < g
+one_under x g zero d below lt = below
+one_under x g (suc i) d below lt = absurd (omega arith)
 
 module _ {T E : Type 0} (stands : T → List E → T → Type 0) (number : E → ℕ) where
   abbrev V : Type 0
@@ -91,3 +95,104 @@ module _ {T E : Type 0} (stands : T → List E → T → Type 0) (number : E →
         subst (λ b. Kept stands number (stepped s 2 (either b new x) id m.1 v keeps)) (sym (ne_eqb x old miss)) (unmoved stands number s r 2 id m at),
         ((λ hit. absurd (miss hit)), λ _. refl),
       ))
+
+  -- a pass that waits after a split waited before
+  drawn_before : (s : St) (id : ℕ) (v a b : V) → a.drawn ≡ false → b.drawn ≡ false → (j : ℕ) (u : V)
+      → get_elem? (set s.views id a ++ b ∷ []) j ≡ some u → u.drawn ≡ true → get_elem? s.views j ≡ some u
+  drawn_before s id v a b free free' j u e d = ⊎_elim
+      (λ (old : get_elem? (set s.views id a) j ≡ some u). at_change (λ i x. x.drawn ≡ true → get_elem? s.views i ≡ some x) s.views id a
+          (λ dx. let f : false ≡ true = sym free ∙ dx in cc) (λ i x _ at _. at) j u old d)
+      (λ (new : b ≡ u). let f : false ≡ true = sym free' ∙ (ap (λ (z : V). z.drawn) new ∙ d) in cc)
+      (at_snoc (set s.views id a) b u j e)
+
+  -- the two halves, and a number that nobody else has: a split keeps the rule
+  pub splits : (id n : ℕ) (v : V) → v.live ≡ true → v.drawn ≡ false → v.holds ≡ false → v.spare ≡ n ∷ []
+      → Splits (Kept stands number) id v (kept_half v) (new_half v)
+  splits id n v live free empty spare s r at =
+      let a : V = kept_half v in let b : V = new_half v in let vs : List V = set s.views id a in
+      let k = r.each id v at live in
+      let first : first_of v.spare ≡ n = ap first_of spare in
+      let cut : v.halvings ≤ r.top = k.cut in
+      let unit : 2 ^ ((1 + r.top) - (v.halvings + 1)) ≡ 2 ^ (r.top - v.halvings) = (let e : (1 + r.top) - (v.halvings + 1) ≡ r.top - v.halvings = omega arith in ap (λ z. 2 ^ z) e) in
+      let half : share (1 + r.top) a ≡ share r.top v = share_live (1 + r.top) a live ∙ (ap (λ z. v.part * z) unit ∙ sym (share_live r.top v live)) in
+      let other_half : share (1 + r.top) b ≡ share r.top v = share_live (1 + r.top) b live ∙ (ap (λ z. v.part * z) unit ∙ sym (share_live r.top v live)) in
+      record {
+        base = r.base;
+        log = r.log;
+        top = 1 + r.top;
+        tickets = r.tickets;
+        serving = r.serving;
+        given = r.given;
+        words = r.words;
+        fits = r.fits;
+        order = r.order;
+        shares =
+            let p = total-append (share (1 + r.top)) vs (b ∷ []) in
+            let q = total-set (share (1 + r.top)) s.views id v a at in
+            let z : total (share (1 + r.top)) s.views ≡ 2 * total (share r.top) s.views = total-scaled (share (1 + r.top)) (share r.top) 2 s.views
+                (λ j u e. finer 1 r.top u (λ lu. (r.each j u e lu).cut)) in
+            let y : share (1 + r.top) v ≡ 2 * share r.top v = finer 1 r.top v (λ _. cut) in
+            let all = r.shares in
+            let power : 2 ^ (1 + r.top) ≡ 2 * 2 ^ r.top = pow-add 2 1 r.top in omega arith;
+        names = λ h.
+            let p = total-append (named h) vs (b ∷ []) in
+            let q = total-set (named h) s.views id v a at in
+            let x = named_live h a live in let y = named_live h b live in let z = named_live h v live in
+            let c : total h v.spare ≡ h n + 0 = ap (total h) spare in let d : h (first_of v.spare) ≡ h n = ap h first in
+            let all = r.names h in omega arith;
+        callers = r.callers;
+        last = let l = same_last stands number s r id v a at live refl in (l.0, l.1, at_longer vs (b ∷ []) l.0 l.1 l.2, l.3, l.4);
+        apart = λ i j x y e d lx ly dx dy same.
+            r.apart i j x y (drawn_before s id v a b free free i x e dx) (drawn_before s id v a b free free j y d dy) lx ly dx dy same;
+        each = λ j u e lu. ⊎_elim
+            (λ (old : get_elem? vs j ≡ some u). at_change (λ _ x. x.live ≡ true → Knows number r.base r.log (1 + r.top) r.tickets r.serving r.given x) s.views id a
+                (λ _. record {
+                  based = k.based;
+                  rest = k.rest;
+                  prefix = k.prefix;
+                  ended = k.ended;
+                  unused = λ m c. let z : c.0 < 0 = c.1 in absurd (omega arith);
+                  some_share = k.some_share;
+                  cut = omega arith;
+                  knows_given = k.knows_given;
+                  numbers = k.numbers;
+                  spare_known = λ i d lt. absurd (omega arith);
+                  waits = k.waits;
+                  holder = k.holder;
+                  joined = k.joined;
+                })
+                (λ i x _ at_x lx. raised number r.base r.log 1 r.top r.tickets r.serving r.given x (r.each i x at_x lx)) j u old lu)
+            (λ (new : b ≡ u). subst (λ (x : V). Knows number r.base r.log (1 + r.top) r.tickets r.serving r.given x) new record {
+              based = k.based;
+              rest = k.rest;
+              prefix = k.prefix;
+              ended = λ m c. entries_after number m r.log v.seen k.rest k.prefix (k.unused m (subst (λ l. Contains l m) (sym spare) (subst (λ z. Contains (z ∷ []) m) first c)));
+              unused = λ m c. let z : c.0 < 0 = c.1 in absurd (omega arith);
+              some_share = k.some_share;
+              cut = omega arith;
+              knows_given = k.knows_given;
+              numbers = let known : n < v.given = subst (λ l. 0 < length l → get_or l 0 0 < v.given) spare (k.spare_known 0 0) (omega arith) in
+                  λ i d lt. one_under (first_of v.spare) v.given i d (omega arith) lt;
+              spare_known = λ i d lt. absurd (omega arith);
+              waits = k.waits;
+              holder = k.holder;
+              joined = met_nothing stands number v.seen;
+            })
+            (at_snoc vs b u j e);
+        place = ⊎_elim
+            (λ (h : Home stands r.base r.log s.homes vs). inl record {
+              value = h.value;
+              home = h.home;
+              stood = h.stood;
+              nobody = λ j u e lu. ⊎_elim (λ (old : get_elem? vs j ≡ some u). h.nobody j u old lu) (λ (new : b ≡ u). sym (ap (λ (z : V). z.holds) new) ∙ empty) (at_snoc vs b u j e);
+            })
+            (λ (w : Away s.homes vs). inr record {
+              seat = w.seat;
+              known = w.known;
+              away = w.away;
+              at = at_longer vs (b ∷ []) w.seat w.known w.at;
+              live = w.live;
+              holds = w.holds;
+            })
+            (same_place stands number s r id v a at live empty empty);
+      }
