@@ -8,3 +8,5 @@ pub mod Changes
 pub mod Turns
 -- a number is given, and a pass is split
 pub mod Splitting
+-- two passes become one
+pub mod Joining
