@@ -10,3 +10,5 @@ pub mod Turns
 pub mod Splitting
 -- two passes become one
 pub mod Joining
+-- the first state, and the last one
+pub mod Ends

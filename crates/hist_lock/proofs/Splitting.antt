@@ -32,7 +32,7 @@ only_at x n (suc k) lt e = absurd (omega arith)
 pub only : (x n : ℕ) → Contains (x ∷ []) n → x ≡ n
 only x n c = only_at x n c.0 c.1 c.2
 
-one_below : (x i d : ℕ) → i < 1 → get_or (x ∷ []) i d < x + 1
+pub one_below : (x i d : ℕ) → i < 1 → get_or (x ∷ []) i d < x + 1
 one_below x zero d lt = omega arith
 one_below x (suc i) d lt = absurd (omega arith)
 
