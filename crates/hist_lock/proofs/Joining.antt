@@ -20,7 +20,7 @@ use Rattle.hist_lock.specs.History.{StartsWith, entries, SameUnder}
 use Rattle.hist_lock.specs.Known.{numbers_of, longer}
 use Rattle.hist_lock.specs.Laws.Rule.{total, below, share, named, Joined, Knows, Home, Away, Kept}
 use Rattle.hist_lock.specs.Laws.Steps.{Sat, both, spent, met}
-use Rattle.hist_lock.proofs.Sums.{total-append, total-set, total-scaled, total-length, at_most, below_one}
+use Rattle.hist_lock.proofs.Sums.{total-append, total-set, total-scaled, total-length, at_most, below_one, below_once, is, distinct}
 use Rattle.hist_lock.proofs.Entries.{starts, between, longer_first, longer_second, entries_before, entries_between, entries_after}
 use Rattle.hist_lock.proofs.Changes.{share_live, named_live, finer, at_change, in_range, raised, unmoved}
 use Rattle.hist_lock.proofs.Turns.{elsewhere}
@@ -205,4 +205,5 @@ module _ {T E : Type 0} (stands : T → List E → T → Type 0) (number : E →
       let here : x ≡ r.given = ap (λ ws. get_or ws 2 0) r.words in let k = r.each id v at live in
       let most = at_most (named (λ _. 1)) s.views id v at in let all = r.names (λ _. 1) in let count = below_one r.given in
       let mine = named_live (λ _. 1) v live in let one = total-length (numbers_of v) in
-      (v, keeps, tt, unmoved stands number s r 2 id m at, (refl, k.joined, omega arith))
+      (v, keeps, tt, unmoved stands number s r 2 id m at, (refl, k.joined, omega arith, distinct (numbers_of v) (λ n.
+          let many = at_most (named (is n)) s.views id v at in let sum = r.names (is n) in let once = below_once n r.given in let here = named_live (is n) v live in omega arith)))

@@ -12,3 +12,5 @@ pub mod Splitting
 pub mod Joining
 -- the first state, and the last one
 pub mod Ends
+-- what a turn leaves of a pass, and what is in its slot
+pub mod Acting

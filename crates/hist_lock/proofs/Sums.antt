@@ -2,7 +2,7 @@
 --
 -- A rule adds a weight over all views. A step changes one view or two, so the sum changes by what they
 -- weighed and weigh. Numbers below n, weighed by `is m`, say whether m is below n, and that once.
-use Rattle.std.proofs.Common.{◌≡◌, ◌≢◌, ◌⊎◌, ℕ, zero, suc, ◌+◌, ◌*◌, ◌<◌, ◌≤◌, ◌==◌, cond, true, false, eqb, List, [], ◌∷◌, ◌++◌, length, get_or, set, refl, sym, ap, ◌∙◌, inl, inr, Contains, arith, eq-eqb, ne_eqb}
+use Rattle.std.proofs.Common.{◌≡◌, ◌≢◌, ◌⊎◌, ℕ, zero, suc, ◌+◌, ◌*◌, ◌<◌, ◌≤◌, ◌==◌, cond, true, false, eqb, List, [], ◌∷◌, ◌++◌, length, get_or, set, refl, sym, ap, ◌∙◌, inl, inr, Contains, AllPairs, arith, eq-eqb, ne_eqb}
 use mathlib.Core.Logic.{dite}
 use mathlib.Core.Option.{some, some-injective, some-ne-none}
 use native.Mathlib.Decide.{ℕ_discrete}
@@ -101,3 +101,17 @@ contains [] n le = absurd (omega arith)
 contains (m ∷ ms) n le = dite (ℕ_discrete m n)
     (λ e. (0, omega arith, e))
     (λ ne. let q = is_other n m ne in let r = contains ms n (omega arith) in (suc r.0, omega arith, r.2))
+
+at_get : (ns : List ℕ) (i d : ℕ) → i < length ns → get_elem? ns i ≡ some (get_or ns i d)
+at_get [] i d lt = absurd (omega arith)
+at_get (n ∷ ns) zero d lt = refl
+at_get (n ∷ ns) (suc i) d lt = at_get ns i d (omega arith)
+
+-- each number stands in the list once at most: no two are the same
+pub distinct : (ns : List ℕ) → ((n : ℕ) → total (is n) ns ≤ 1) → AllPairs (λ a b. a ≢ b) ns
+distinct ns once i j d lt len same = let n : ℕ = get_or ns i d in
+    let most = two_at_most (is n) ns i j n (get_or ns j d) (λ e. omega arith) (at_get ns i d (omega arith)) (at_get ns j d len) in
+    let a : is n n ≡ 1 = is_same n in let b : is n (get_or ns j d) ≡ 1 = ap (is n) (sym same) ∙ is_same n in let c = once n in omega arith
+
+pub other_number : (m : ℕ) (ns : List ℕ) (n : ℕ) → AllPairs (λ a b. a ≢ b) (m ∷ ns) → Contains ns n → n ≢ m
+other_number m ns n apart c e = let lt : c.0 < length ns = c.1 in apart 0 (suc c.0) n (omega arith) (omega arith) (sym e ∙ sym c.2)

@@ -6,6 +6,7 @@
 -- Halves v w                the share w is half of the share v
 -- Adds v w u                the share u is the sum of the shares v and w
 -- longer xs ys             the longer of two lists
+-- IsSame v w                w is v, but for what it has seen and done
 -- numbers_of v              its number and those of the passes that were joined into it
 -- newcomer base             the first pass of a lock
 use Rattle.std.specs.Prelude.{◌≡◌, ℕ, ◌+◌, ◌*◌, ◌^◌, ◌<◌, true, false, List, [], ◌∷◌, ◌++◌, All, Some, length, nat_lt, if◌then◌else◌}
@@ -36,6 +37,14 @@ module _ {T E : Type 0} where
   -- the same sum over one power of two
   abbrev pub Adds : View T E → View T E → View T E → Type 0
   Adds v w u = (u.part ≡ v.part * 2 ^ w.halvings + w.part * 2 ^ v.halvings) × (u.halvings ≡ v.halvings + w.halvings)
+
+  -- The same pass, which may have seen and done more.
+  pub record IsSame (v w : View T E) : Type 0 where
+    pub share : (w.part ≡ v.part) × (w.halvings ≡ v.halvings)
+    pub base : w.base ≡ v.base
+    pub number : w.number ≡ v.number
+    pub under : w.under ≡ v.under
+    pub given : w.given ≡ v.given
 
   abbrev pub newcomer : T → View T E
   newcomer base = record {

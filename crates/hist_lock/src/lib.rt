@@ -6,4 +6,12 @@ mod lock;
 mod pass;
 mod plays;
 mod start;
+mod turn;
 mod view;
+mod wait;
+
+pub use act::Act;
+pub use hist_standing::Standing;
+pub use lock::HistLock;
+pub use pass::Pass;
+pub use view::{Law, Met, View};

@@ -11,8 +11,10 @@ use std::sync::atomic::AtomicU64;
 /// One value that threads use in turns. In proofs alone it has one history, in which each turn adds its entries.
 pub struct HistLock<T: Standing> {
     pub(crate) table: Table<Option<T>, View<T, T::Entry>, Snapshot<T>, Law, Global>,
-    /// How many threads sleep, or are about to. No clause rests on it.
-    pub(crate) sleepers: AtomicU64,
+    /// 1 if a thread may sleep that nobody was sent to wake. No clause rests on it.
+    pub(crate) asleep: AtomicU64,
+    /// How often a thread looks at the lock before it sleeps.
+    pub(crate) spins: u32,
     ghost words: { table.shared.table_id.words ≡ 3 },
     ghost slots: { table.shared.table_id.slots ≡ 1 },
 }

@@ -1,6 +1,7 @@
 //! A caller's token.
-ghost use Rattle.std.specs.Prelude.{◌≡◌, ◌<◌, false, [], length};
+ghost use Rattle.std.specs.Prelude.{◌≡◌, ◌≢◌, false, [], length, AllPairs};
 ghost use Rattle.hist_lock.specs.History.{entries};
+ghost use Rattle.hist_lock.specs.Known.{numbers_of};
 
 use crate::view::View;
 use hist_standing::Standing;
@@ -21,6 +22,7 @@ pub struct Pass<T: Standing> {
     ghost spare: { seat.me.0.spare ≡ [] },
     ghost number_is: { number ≡ seat.me.0.number },
     ghost ended_is: { ended ≡ length seat.me.0.under },
+    ghost apart: { AllPairs (λ m n. m ≢ n) (numbers_of seat.me.0) },
     ghost own: { entries T.number seat.me.0.number seat.me.0.seen ≡ seat.me.0.mine },
 }
 

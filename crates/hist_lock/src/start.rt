@@ -4,6 +4,7 @@ ghost use Rattle.hist_lock.specs.Known.{IsPassOf, view, newcomer};
 
 use crate::lock::HistLock;
 use crate::pass::Pass;
+use crate::wait::SPINS;
 use atomic_table::{Refused, Table};
 use hist_standing::Standing;
 use std::alloc::{AllocError, Global};
@@ -27,7 +28,11 @@ impl<T: Standing> HistLock<T> {
         slots.push_reserved(Some(value));
         match Table::new(alloc, &[0, 0, 1], slots, &base) {
             Ok((table, seat)) => {
-                let lock = HistLock { table, sleepers: AtomicU64::new(0) };
+                let lock = HistLock {
+                    table,
+                    asleep: AtomicU64::new(0),
+                    spins: SPINS,
+                };
                 Ok((lock, Pass { seat, number: 0, ended: 0 }))
             }
             Err(Refused { mut slots }) => {

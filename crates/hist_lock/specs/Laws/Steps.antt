@@ -6,7 +6,7 @@
 -- gave                    a number is given
 -- met                     the load after a join
 -- closing                 the load that decides whether the lock can be closed
-use Rattle.std.specs.Prelude.{◌≡◌, ◌≢◌, ◌↔◌, ℕ, ◌+◌, ◌*◌, ◌^◌, ◌≤◌, max, true, false, List, [], ◌∷◌, ◌++◌, length, nat_lt, if◌then◌else◌, Option, Some, None}
+use Rattle.std.specs.Prelude.{◌≡◌, ◌≢◌, ◌↔◌, ℕ, ◌+◌, ◌*◌, ◌^◌, ◌≤◌, max, true, false, List, [], ◌∷◌, ◌++◌, length, AllPairs, Option, Some, None}
 use Rattle.atomic_table.specs.Table.{Me, Step}
 use Rattle.hist_lock.specs.declared.view.View.{View}
 use Rattle.hist_lock.specs.History.{StartsWith, entries, SameUnder}
@@ -21,6 +21,13 @@ first_of [] = 0
 first_of (n ∷ ns) = n
 
 module _ {T E : Type 0} where
+  -- a pass that isn't in a turn, and one that has drawn a ticket and waits for its turn
+  abbrev pub Idle : Sat T E → Type 0
+  Idle m = (m.1 ≡ []) × (m.0.live ≡ true) × (m.0.drawn ≡ false) × (m.0.holds ≡ false)
+
+  abbrev pub Waits : ℕ → Sat T E → Type 0
+  Waits ticket m = (m.1 ≡ []) × (m.0.live ≡ true) × (m.0.drawn ≡ true) × (m.0.holds ≡ false) × (m.0.ticket ≡ ticket)
+
   abbrev pub queued : ℕ → View T E → View T E
   queued ticket v = record v { drawn = true; ticket = ticket }
 
@@ -57,7 +64,7 @@ module _ {T E : Type 0} where
   gave number st m n m' = (n ≡ st.first → (m' ≡ (numbered n m.0, m.1)) × (m.0.given ≤ n) × (entries number n m.0.seen ≡ [])) × (n ≢ st.first → m' ≡ m)
 
   abbrev pub met : (E → ℕ) → Step (Option T) → Sat T E → ℕ → Sat T E → Type 0
-  met number st m n m' = (m' ≡ m) × Joined number m.0.seen m.0.met × (length (numbers_of m.0) ≤ n)
+  met number st m n m' = (m' ≡ m) × Joined number m.0.seen m.0.met × (length (numbers_of m.0) ≤ n) × AllPairs (λ a b. a ≢ b) (numbers_of m.0)
 
   abbrev pub closing : Step (Option T) → Sat T E → ℕ → Sat T E → Type 0
   closing st m n m' = (m' ≡ m) × (IsWhole m.0 ↔ n ≡ length (numbers_of m.0))
