@@ -16,9 +16,9 @@ use Rattle.std.proofs.lemmas.Nat.{pow-add, pow_pos}
 use Rattle.std.proofs.Math.Nat.{mul-pos, eq_of_mul-eq-mul_right}
 use Rattle.hist_lock.specs.declared.view.View.{View}
 use Rattle.hist_lock.specs.History.{StartsWith, entries, SameUnder}
-use Rattle.hist_lock.specs.Known.{numbers_of, newcomer, IsWhole}
+use Rattle.hist_lock.specs.Known.{numbers_of, newcomer, IsWhole, closed}
 use Rattle.hist_lock.specs.Laws.Rule.{total, below, share, named, Joined, Knows, Home, Away, Kept}
-use Rattle.hist_lock.specs.Laws.Steps.{Sat, closing, closed}
+use Rattle.hist_lock.specs.Laws.Steps.{Sat, closing}
 use Rattle.hist_lock.proofs.Sums.{total-append, total-alone, total-length, two_at_most, at_most, below_one, below_there, is, contains}
 use Rattle.hist_lock.proofs.Changes.{share_live, named_live, unmoved}
 use Rattle.hist_lock.proofs.Turns.{met_nothing, elsewhere}
@@ -140,7 +140,9 @@ module _ {T E : Type 0} (stands : T → List E → T → Type 0) (number : E →
   pub closes : (slots id : ℕ) (m : Sat T E) → m.0.live ≡ true → m.0.spare ≡ [] → Allows (Kept stands number) slots id m 2 (λ n. n) (closing (step slots 2 0 0 none) m)
   closes slots id m live spare s r _ at _ = let x : ℕ = get_or s.words 2 0 in let v : V = m.0 in
       let here : x ≡ r.given = ap (λ ws. get_or ws 2 0) r.words in
-      (v, keeps, tt, unmoved stands number s r 2 id m at, (refl, ((λ whole. here ∙ counted s r id v at live whole spare), λ count. is_whole s r id v at live spare (sym here ∙ count))))
+      let most = at_most (named (λ _. 1)) s.views id v at in let all = r.names (λ _. 1) in let count = below_one r.given in
+      let mine = named_live (λ _. 1) v live in let one = total-length (numbers_of v) in
+      (v, keeps, tt, unmoved stands number s r 2 id m at, (refl, omega arith, ((λ whole. here ∙ counted s r id v at live whole spare), λ count. is_whole s r id v at live spare (sym here ∙ count))))
 
   -- a view that asks nothing can be added at any time
   pub remembers : (id : ℕ) (v : V) → Splits (Kept stands number) id v v (closed v)

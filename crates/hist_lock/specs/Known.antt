@@ -3,13 +3,15 @@
 -- view seat                 what the pass of that seat knows
 -- IsPassOf id seat          it is a pass of the table id, which isn't closed
 -- IsWhole v                 its share is 1
+-- SameShare v w             they have the same share
 -- Halves v w                the share w is half of the share v
 -- Adds v w u                the share u is the sum of the shares v and w
 -- longer xs ys             the longer of two lists
 -- IsSame v w                w is v, but for what it has seen and done
 -- numbers_of v              its number and those of the passes that were joined into it
 -- newcomer base             the first pass of a lock
-use Rattle.std.specs.Prelude.{◌≡◌, ℕ, ◌+◌, ◌*◌, ◌^◌, ◌<◌, true, false, List, [], ◌∷◌, ◌++◌, All, Some, length, nat_lt, if◌then◌else◌}
+-- closed v                  the pass after the lock was closed with it
+use Rattle.std.specs.Prelude.{◌≡◌, ℕ, ◌+◌, ◌*◌, ◌^◌, ◌<◌, ◌≤◌, true, false, List, [], ◌∷◌, ◌++◌, All, Some, length, nat_lt, if◌then◌else◌}
 use Rattle.atomic_table.specs.Table.{Me}
 use Rattle.atomic_table.specs.Seated.{TableId}
 use Rattle.atomic_table.specs.declared.shared.Seat.{Seat}
@@ -40,11 +42,13 @@ module _ {T E : Type 0} where
 
   -- The same pass, which may have seen and done more.
   pub record IsSame (v w : View T E) : Type 0 where
-    pub share : (w.part ≡ v.part) × (w.halvings ≡ v.halvings)
     pub base : w.base ≡ v.base
     pub number : w.number ≡ v.number
     pub under : w.under ≡ v.under
-    pub given : w.given ≡ v.given
+    pub given : v.given ≤ w.given
+
+  abbrev pub SameShare : View T E → View T E → Type 0
+  SameShare v w = (w.part ≡ v.part) × (w.halvings ≡ v.halvings)
 
   abbrev pub newcomer : T → View T E
   newcomer base = record {
@@ -63,6 +67,10 @@ module _ {T E : Type 0} where
     holds = false;
     met = met_nobody;
   }
+
+  -- the pass once the lock was closed with it: all that it knew, and it can't be used any more
+  abbrev pub closed : View T E → View T E
+  closed v = record v { live = false }
 
 module _ {S T E : Type 0} where
   abbrev pub view : Seat S (View T E) → View T E

@@ -2,9 +2,11 @@
 #![tactic(auto)]
 
 mod act;
+mod close;
 mod lock;
 mod pass;
 mod plays;
+mod split;
 mod start;
 mod turn;
 mod view;

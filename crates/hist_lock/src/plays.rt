@@ -1,6 +1,7 @@
 //! The steps on the table, each with what it tells.
 ghost use Rattle.hist_lock.specs.Laws.Steps.{drew, looked, passed, gave, met, closing};
-ghost use Rattle.hist_lock.specs.Laws.Steps.{kept_half, new_half, both, spent, closed};
+ghost use Rattle.hist_lock.specs.Laws.Steps.{kept_half, new_half, both, spent};
+ghost use Rattle.hist_lock.specs.Known.{closed};
 ghost use Rattle.std.specs.Prelude.{List, []};
 
 use crate::view::View;

@@ -1,7 +1,7 @@
 //! A turn: the pass gets the value, acts on it once, puts it back and passes the turn on.
 ghost use Rattle.std.specs.Prelude.{◌≡◌, ℕ, true, false, List, [], ◌∷◌, ◌++◌, All, Some};
 ghost use Rattle.hist_lock.specs.History.{StartsWith, entries, SameUnder};
-ghost use Rattle.hist_lock.specs.Known.{IsPassOf, view, IsSame};
+ghost use Rattle.hist_lock.specs.Known.{IsPassOf, view, IsSame, SameShare};
 ghost use Rattle.hist_lock.specs.Laws.Steps.{done};
 
 use crate::act::Act;
@@ -31,7 +31,7 @@ impl<T: Standing> HistLock<T> {
             → entries T.number (view pass.old.seat).number log ≡ (view pass.old.seat).mine
             → A.may act.old base log }
         ensures pass { IsPassOf self.now.table.shared.table_id pass.new.seat }
-        ensures same { IsSame (view pass.old.seat) (view pass.new.seat) }
+        ensures same { IsSame (view pass.old.seat) (view pass.new.seat) × SameShare (view pass.old.seat) (view pass.new.seat) }
         ensures acted { (es : List T.Entry) × (between : List T.Entry)
             × A.allows act.old act.new (view pass.old.seat).number es
             × All (λ e. T.number e ≡ (view pass.old.seat).number) es

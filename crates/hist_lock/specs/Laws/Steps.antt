@@ -67,7 +67,7 @@ module _ {T E : Type 0} where
   met number st m n m' = (m' ≡ m) × Joined number m.0.seen m.0.met × (length (numbers_of m.0) ≤ n) × AllPairs (λ a b. a ≢ b) (numbers_of m.0)
 
   abbrev pub closing : Step (Option T) → Sat T E → ℕ → Sat T E → Type 0
-  closing st m n m' = (m' ≡ m) × (IsWhole m.0 ↔ n ≡ length (numbers_of m.0))
+  closing st m n m' = (m' ≡ m) × (length (numbers_of m.0) ≤ n) × (IsWhole m.0 ↔ n ≡ length (numbers_of m.0))
 
   -- the two passes after a split
   abbrev pub kept_half : View T E → View T E
@@ -103,7 +103,3 @@ module _ {T E : Type 0} where
     holds = false;
     met = met_nobody;
   }
-
-  -- a view that asks nothing, and says what the pass knew when the lock was closed
-  abbrev pub closed : View T E → View T E
-  closed v = record v { live = false }
