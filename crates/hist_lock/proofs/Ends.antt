@@ -4,7 +4,7 @@
 -- names every number that was given, so the count of numbers tells by one load whether a pass is alone,
 -- and it has seen the whole history, since some live pass has.
 use Rattle.std.proofs.Common.{◌≡◌, ◌≢◌, ◌⊎◌, ℕ, zero, suc, ◌+◌, ◌-◌, ◌*◌, ◌^◌, ◌<◌, ◌≤◌, if◌then◌else◌, Bool, true, false, cond, List, [], ◌∷◌, ◌++◌, length, get_or, set, refl, sym, ap, ◌∙◌, subst, inl, inr, ⊎_elim, All, Contains, arith, map}
-use Rattle.std.specs.Prelude.{Option, Some}
+use Rattle.std.specs.Prelude.{Option, Some, None}
 use mathlib.Core.Logic.{dite, ◌↔◌}
 use mathlib.Core.Option.{none, some, some-injective, some-ne-none}
 use native.Mathlib.Decide.{ℕ_discrete}
@@ -207,3 +207,11 @@ module _ {T E : Type 0} (stands : T → List E → T → Type 0) (number : E →
           (λ e. absurd (elsewhere stands number s r id v a at empty e))
           (λ ne. absurd (alone s r id v at live whole a.seat a.known ne a.at a.live)))
       r.place
+
+-- What the slot holds is read once.
+module _ {X : Type 0} where
+  pub same_slot : (slots : List (Option X)) (a b : X) → get_elem? slots 0 ≡ some (Some a) → get_elem? slots 0 ≡ some (Some b) → a ≡ b
+  same_slot slots a b e d = let both : Some a ≡ Some b = some-injective (Some a) (Some b) (sym e ∙ d) in cc
+
+  pub not_empty : (slots : List (Option X)) (a : X) → get_elem? slots 0 ≡ some None → get_elem? slots 0 ≡ some (Some a) → ⊥
+  not_empty slots a e d = let both : None ≡ Some a = some-injective None (Some a) (sym e ∙ d) in cc
