@@ -10,6 +10,8 @@ mod split;
 mod start;
 mod turn;
 mod view;
+#[cfg(test)]
+mod tests;
 mod wait;
 
 pub use act::Act;

@@ -9,6 +9,7 @@ use std::snapshot::Snapshot;
 use std::sync::atomic::AtomicU64;
 
 /// One value that threads use in turns. In proofs alone it has one history, in which each turn adds its entries.
+#[derive(Drop)]
 pub struct HistLock<T: Standing> {
     pub(crate) table: Table<Option<T>, View<T, T::Entry>, Snapshot<T>, Law, Global>,
     /// 1 if a thread may sleep that nobody was sent to wake. No clause rests on it.
