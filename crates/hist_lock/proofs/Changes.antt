@@ -95,13 +95,13 @@ module _ {T E : Type 0} (stands : T → List E → T → Type 0) (number : E →
         → x.live ≡ true → y.live ≡ true → x.drawn ≡ true → y.drawn ≡ true → x.ticket ≡ y.ticket → i ≢ j → ⊥
     two_tickets i j x y e d lx ly dx dy same ne = ⊎_elim
         (λ (a : (i ≡ id) × (w ≡ x)). ⊎_elim
-            (λ (b : (j ≡ id) × (w ≡ y)). ne (a.0 ∙ sym b.0))
-            (λ (b : (j ≢ id) × (get_elem? s.views j ≡ some y)). far j y b.0 b.1 ly (ap (λ (z : V). z.drawn) a.1 ∙ dx) dy (ap (λ (z : V). z.ticket) a.1 ∙ same))
-            (at_set s.views id j w y d))
+        (λ (b : (j ≡ id) × (w ≡ y)). ne (a.0 ∙ sym b.0))
+        (λ (b : (j ≢ id) × (get_elem? s.views j ≡ some y)). far j y b.0 b.1 ly (ap (λ (z : V). z.drawn) a.1 ∙ dx) dy (ap (λ (z : V). z.ticket) a.1 ∙ same))
+        (at_set s.views id j w y d))
         (λ (a : (i ≢ id) × (get_elem? s.views i ≡ some x)). ⊎_elim
-            (λ (b : (j ≡ id) × (w ≡ y)). far i x a.0 a.1 lx (ap (λ (z : V). z.drawn) b.1 ∙ dy) dx (ap (λ (z : V). z.ticket) b.1 ∙ sym same))
-            (λ (b : (j ≢ id) × (get_elem? s.views j ≡ some y)). ne (r.apart i j x y a.1 b.1 lx ly dx dy same))
-            (at_set s.views id j w y d))
+        (λ (b : (j ≡ id) × (w ≡ y)). far i x a.0 a.1 lx (ap (λ (z : V). z.drawn) b.1 ∙ dy) dx (ap (λ (z : V). z.ticket) b.1 ∙ sym same))
+        (λ (b : (j ≢ id) × (get_elem? s.views j ≡ some y)). ne (r.apart i j x y a.1 b.1 lx ly dx dy same))
+        (at_set s.views id j w y d))
         (at_set s.views id i w x e)
 
   pub changed : (s : State (Option T) (View T E)) (r : Kept stands number s) (id : ℕ) (v w : View T E) (ws : List ℕ) (hs : List (maybe.Option (Option T))) (log : List E) (tickets serving given : ℕ)

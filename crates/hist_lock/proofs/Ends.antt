@@ -133,8 +133,8 @@ module _ {T E : Type 0} (stands : T → List E → T → Type 0) (number : E →
     pub whole_named : IsWhole v → v.spare ≡ [] → All (λ e. Contains (numbers_of v) (number e)) v.seen
     whole_named whole spare = subst (λ es. All (λ e. Contains (numbers_of v) (number e)) es) (sym (whole_seen whole))
         (All-weaker (λ e. number e < r.given) (λ e. Contains (numbers_of v) (number e)) (λ e lt.
-            let all = named_alone whole (is (number e)) in let one = below_there (number e) r.given lt in let mine = named_live (is (number e)) v live in
-            let none : total (is (number e)) v.spare ≡ 0 = ap (total (is (number e))) spare in contains (numbers_of v) (number e) (omega arith)) r.log r.callers)
+        let all = named_alone whole (is (number e)) in let one = below_there (number e) r.given lt in let mine = named_live (is (number e)) v live in
+        let none : total (is (number e)) v.spare ≡ 0 = ap (total (is (number e))) spare in contains (numbers_of v) (number e) (omega arith)) r.log r.callers)
 
   -- the load that decides whether the lock can be closed
   pub closes : (slots id : ℕ) (m : Sat T E) → m.0.live ≡ true → m.0.spare ≡ [] → Allows (Kept stands number) slots id m 2 (λ n. n) (closing (step slots 2 0 0 none) m)
@@ -149,7 +149,7 @@ module _ {T E : Type 0} (stands : T → List E → T → Type 0) (number : E →
   remembers id v s r at = let c : V = closed v in
       let dead : (u : V) → c ≡ u → u.live ≡ true → ⊥ = λ u e live. (let f : false ≡ true = ap (λ (z : V). z.live) e ∙ live in cc) in
       let old : (j : ℕ) (u : V) → get_elem? (s.views ++ c ∷ []) j ≡ some u → u.live ≡ true → get_elem? s.views j ≡ some u = λ j u e live. ⊎_elim
-          (λ (h : get_elem? s.views j ≡ some u). h) (λ (h : c ≡ u). absurd (dead u h live)) (at_snoc s.views c u j e) in
+      (λ (h : get_elem? s.views j ≡ some u). h) (λ (h : c ≡ u). absurd (dead u h live)) (at_snoc s.views c u j e) in
       subst (λ vs. Kept stands number record { words = s.words; homes = s.homes; views = vs ++ c ∷ [] }) (sym (set_again s.views id v at)) record {
         base = r.base;
         log = r.log;
@@ -204,8 +204,8 @@ module _ {T E : Type 0} (stands : T → List E → T → Type 0) (number : E →
         named_all = whole_named s r id v at live whole spare;
       })
       (λ (a : Away s.homes s.views). dite (ℕ_discrete a.seat id)
-          (λ e. absurd (elsewhere stands number s r id v a at empty e))
-          (λ ne. absurd (alone s r id v at live whole a.seat a.known ne a.at a.live)))
+      (λ e. absurd (elsewhere stands number s r id v a at empty e))
+      (λ ne. absurd (alone s r id v at live whole a.seat a.known ne a.at a.live)))
       r.place
 
 -- What the slot holds is read once.

@@ -75,7 +75,7 @@ module _ {E : Type 0} where
       dite (dec_lt (length a) (length b))
       (λ lt. longer_second a b lt ∙ ⊎_elim (λ (h : a ≡ log). let f = ap length h in absurd (omega arith)) (λ (h : b ≡ log). h) one)
       (λ not. longer_first a b (omega arith) ∙ ⊎_elim (λ (h : a ≡ log). h)
-          (λ (h : b ≡ log). let f = ap length h in all_seen a r (omega arith) ∙ sym e) one)
+      (λ (h : b ≡ log). let f = ap length h in all_seen a r (omega arith) ∙ sym e) one)
 
 -- the arithmetic of shares
 sum_of_shares : (a b x y t : ℕ) → (a * x + b * y) * t ≡ a * (x * t) + b * (y * t)
@@ -109,9 +109,9 @@ module _ {T E : Type 0} (stands : T → List E → T → Type 0) (number : E →
       → (j : ℕ) (u : V) → get_elem? (set (set vs id b) other spent) j ≡ some u → P j u
   after_join P vs id other b here gone others = at_change P (set vs id b) other spent gone
       (λ j u away e. ⊎_elim
-          (λ (t : (j ≡ id) × (b ≡ u)). subst (λ (z : ℕ × V). P z.0 z.1) (λ k. (sym t.0 k, t.1 k)) here)
-          (λ (t : (j ≢ id) × (get_elem? vs j ≡ some u)). others j u t.0 away t.1)
-          (at_set vs id j b u e))
+      (λ (t : (j ≡ id) × (b ≡ u)). subst (λ (z : ℕ × V). P z.0 z.1) (λ k. (sym t.0 k, t.1 k)) here)
+      (λ (t : (j ≢ id) × (get_elem? vs j ≡ some u)). others j u t.0 away t.1)
+      (at_set vs id j b u e))
 
   pub joins : (id : ℕ) (v : V) (other : ℕ) (w : V) → v.live ≡ true → w.live ≡ true → v.drawn ≡ false → w.drawn ≡ false → v.holds ≡ false → w.holds ≡ false → v.spare ≡ [] → w.spare ≡ []
       → Joins (Kept stands number) id v other w (both v w) spent
@@ -124,7 +124,7 @@ module _ {T E : Type 0} (stands : T → List E → T → Type 0) (number : E →
       let kept_at : (j : ℕ) (u : V) → j ≢ id → j ≢ other → get_elem? s.views j ≡ some u → get_elem? vs j ≡ some u = λ j u ne away e. set_else (set s.views id b) other j spent away ∙ (set_else s.views id j b ne ∙ e) in
       let here : get_elem? vs id ≡ some b = set_else (set s.views id b) other id spent (λ e. apart (sym e)) ∙ in_range s.views id v b at in
       let waited : (j : ℕ) (u : V) → get_elem? vs j ≡ some u → u.drawn ≡ true → get_elem? s.views j ≡ some u = after_join (λ j u. u.drawn ≡ true → get_elem? s.views j ≡ some u) s.views id other b
-          (λ d. let f : false ≡ true = sym fv ∙ d in cc) (λ (d : false ≡ true). cc) (λ j u _ _ e _. e) in
+      (λ d. let f : false ≡ true = sym fv ∙ d in cc) (λ (d : false ≡ true). cc) (λ j u _ _ e _. e) in
       record {
         base = r.base;
         log = r.log;
@@ -140,7 +140,7 @@ module _ {T E : Type 0} (stands : T → List E → T → Type 0) (number : E →
             let q = total-set (share (c + r.top)) (set s.views id b) other w spent there in
             let gone : share (c + r.top) (spent {T = T} {E = E}) ≡ 0 = refl in
             let z : total (share (c + r.top)) s.views ≡ 2 ^ c * total (share r.top) s.views = total-scaled (share (c + r.top)) (share r.top) (2 ^ c) s.views
-                (λ j u e. finer c r.top u (λ lu. (r.each j u e lu).cut)) in
+            (λ j u e. finer c r.top u (λ lu. (r.each j u e lu).cut)) in
             let y = shares_add v w r.top lv lw in
             let all : 2 ^ c * total (share r.top) s.views ≡ 2 ^ c * 2 ^ r.top = ap (λ t. 2 ^ c * t) r.shares in
             let power : 2 ^ (c + r.top) ≡ 2 ^ c * 2 ^ r.top = pow-add 2 c r.top in omega arith;
@@ -154,12 +154,24 @@ module _ {T E : Type 0} (stands : T → List E → T → Type 0) (number : E →
             let all = r.names h in omega arith;
         callers = r.callers;
         last = let t = r.last in dite (ℕ_discrete t.0 id)
-            (λ e. (id, b, here, lv, longest r.log v.seen w.seen k.rest l.rest k.prefix l.prefix
-                (inl (ap (λ (z : V). z.seen) (some-injective v t.1 (sym at ∙ (sym (ap (λ i. get_elem? s.views i) e) ∙ t.2))) ∙ t.4))))
+            (λ e. (
+              id,
+              b,
+              here,
+              lv,
+              longest r.log v.seen w.seen k.rest l.rest k.prefix l.prefix
+                  (inl (ap (λ (z : V). z.seen) (some-injective v t.1 (sym at ∙ (sym (ap (λ i. get_elem? s.views i) e) ∙ t.2))) ∙ t.4)),
+            ))
             (λ ne. dite (ℕ_discrete t.0 other)
-                (λ e. (id, b, here, lv, longest r.log v.seen w.seen k.rest l.rest k.prefix l.prefix
-                    (inr (ap (λ (z : V). z.seen) (some-injective w t.1 (sym at_other ∙ (sym (ap (λ i. get_elem? s.views i) e) ∙ t.2))) ∙ t.4))))
-                (λ away. (t.0, t.1, kept_at t.0 t.1 ne away t.2, t.3, t.4)));
+            (λ e. (
+              id,
+              b,
+              here,
+              lv,
+              longest r.log v.seen w.seen k.rest l.rest k.prefix l.prefix
+                  (inr (ap (λ (z : V). z.seen) (some-injective w t.1 (sym at_other ∙ (sym (ap (λ i. get_elem? s.views i) e) ∙ t.2))) ∙ t.4)),
+            ))
+            (λ away. (t.0, t.1, kept_at t.0 t.1 ne away t.2, t.3, t.4)));
         apart = λ i j x y e d lx ly dx dy same. r.apart i j x y (waited i x e dx) (waited j y d dy) lx ly dx dy same;
         each = after_join (λ _ x. x.live ≡ true → Knows number r.base r.log (c + r.top) r.tickets r.serving r.given x) s.views id other b
             (λ _. record {
@@ -204,6 +216,16 @@ module _ {T E : Type 0} (stands : T → List E → T → Type 0) (number : E →
   meets slots id m live s r _ at _ = let x : ℕ = get_or s.words 2 0 in let v : V = m.0 in
       let here : x ≡ r.given = ap (λ ws. get_or ws 2 0) r.words in let k = r.each id v at live in
       let most = at_most (named (λ _. 1)) s.views id v at in let all = r.names (λ _. 1) in let count = below_one r.given in
-      let mine = named_live (λ _. 1) v live in let one = total-length (numbers_of v) in
-      (v, keeps, tt, unmoved stands number s r 2 id m at, (refl, k.joined, omega arith, distinct (numbers_of v) (λ n.
-          let many = at_most (named (is n)) s.views id v at in let sum = r.names (is n) in let once = below_once n r.given in let here = named_live (is n) v live in omega arith)))
+      let mine = named_live (λ _. 1) v live in let one = total-length (numbers_of v) in (
+        v,
+        keeps,
+        tt,
+        unmoved stands number s r 2 id m at,
+        (
+          refl,
+          k.joined,
+          omega arith,
+          distinct (numbers_of v) (λ n.
+              let many = at_most (named (is n)) s.views id v at in let sum = r.names (is n) in let once = below_once n r.given in let here = named_live (is n) v live in omega arith),
+        ),
+      )

@@ -53,41 +53,41 @@ module _ {T E : Type 0} (stands : T → List E → T → Type 0) (number : E →
       let here : x ≡ r.given = ap (λ ws. get_or ws 2 0) r.words in let k = r.each id v at live in let known : v.given ≤ r.given = k.knows_given in
       dite (ℕ_discrete x old)
       (λ hit. let w : V = numbered x v in let next : new ≡ suc r.given = omega arith in
-          let fresh : entries number x r.log ≡ [] = entries-fresh number x r.log (subst (λ z. All (λ e. number e < z) r.log) (sym here) r.callers) in (
-          w,
-          keeps,
-          tt,
-          subst (λ b. Kept stands number (stepped s 2 (either b new x) id m.1 w keeps)) (sym (eq-eqb x old hit))
-              (changed stands number s r id v w (set s.words 2 new) s.homes r.log r.tickets r.serving (suc r.given) at record {
-                words = ap (λ n. set s.words 2 n) next ∙ ap (λ ws. set ws 2 (suc r.given)) r.words;
-                fits = r.fits;
-                order = r.order;
-                live = live;
-                same_share = refl;
-                names = λ h. let a = named_live h w live in let b = named_live h v live in let c : total h v.spare ≡ 0 = ap (total h) spare in let d : h x ≡ h r.given = ap h here in omega arith;
-                callers = All-weaker (λ e. number e < r.given) (λ e. number e < suc r.given) (λ e lt. let z : number e < r.given = lt in omega arith) r.log r.callers;
-                last = same_last stands number s r id v w at live refl;
-                apart = λ j u _ _ _ (d : v.drawn ≡ true) _ _. let f : false ≡ true = sym free ∙ d in cc;
-                mine = record {
-                  based = k.based;
-                  rest = k.rest;
-                  prefix = k.prefix;
-                  ended = k.ended;
-                  unused = λ n c. subst (λ z. entries number z r.log ≡ []) (only x n c) fresh;
-                  some_share = k.some_share;
-                  cut = k.cut;
-                  knows_given = omega arith;
-                  numbers = All-weaker (λ n. n < v.given) (λ n. n < x + 1) (λ n lt. let z : n < v.given = lt in omega arith) (numbers_of v) k.numbers;
-                  spare_known = λ i d lt. one_below x i d lt;
-                  waits = λ (d : v.drawn ≡ true). let f : false ≡ true = sym free ∙ d in cc;
-                  holder = λ (d : v.holds ≡ true). let f : false ≡ true = sym empty ∙ d in cc;
-                  joined = k.joined;
-                };
-                others = λ j u _ _ _ known. later number r.base r.log r.top r.tickets r.serving r.given r.tickets (suc r.given) u (omega arith) (omega arith) known;
-                place = same_place stands number s r id v w at live empty empty;
-              }),
-          ((λ _. (refl, omega arith, entries_between number x r.log v.seen k.rest k.prefix fresh)), λ miss. absurd (miss hit)),
-        ))
+      let fresh : entries number x r.log ≡ [] = entries-fresh number x r.log (subst (λ z. All (λ e. number e < z) r.log) (sym here) r.callers) in (
+        w,
+        keeps,
+        tt,
+        subst (λ b. Kept stands number (stepped s 2 (either b new x) id m.1 w keeps)) (sym (eq-eqb x old hit))
+            (changed stands number s r id v w (set s.words 2 new) s.homes r.log r.tickets r.serving (suc r.given) at record {
+              words = ap (λ n. set s.words 2 n) next ∙ ap (λ ws. set ws 2 (suc r.given)) r.words;
+              fits = r.fits;
+              order = r.order;
+              live = live;
+              same_share = refl;
+              names = λ h. let a = named_live h w live in let b = named_live h v live in let c : total h v.spare ≡ 0 = ap (total h) spare in let d : h x ≡ h r.given = ap h here in omega arith;
+              callers = All-weaker (λ e. number e < r.given) (λ e. number e < suc r.given) (λ e lt. let z : number e < r.given = lt in omega arith) r.log r.callers;
+              last = same_last stands number s r id v w at live refl;
+              apart = λ j u _ _ _ (d : v.drawn ≡ true) _ _. let f : false ≡ true = sym free ∙ d in cc;
+              mine = record {
+                based = k.based;
+                rest = k.rest;
+                prefix = k.prefix;
+                ended = k.ended;
+                unused = λ n c. subst (λ z. entries number z r.log ≡ []) (only x n c) fresh;
+                some_share = k.some_share;
+                cut = k.cut;
+                knows_given = omega arith;
+                numbers = All-weaker (λ n. n < v.given) (λ n. n < x + 1) (λ n lt. let z : n < v.given = lt in omega arith) (numbers_of v) k.numbers;
+                spare_known = λ i d lt. one_below x i d lt;
+                waits = λ (d : v.drawn ≡ true). let f : false ≡ true = sym free ∙ d in cc;
+                holder = λ (d : v.holds ≡ true). let f : false ≡ true = sym empty ∙ d in cc;
+                joined = k.joined;
+              };
+              others = λ j u _ _ _ known. later number r.base r.log r.top r.tickets r.serving r.given r.tickets (suc r.given) u (omega arith) (omega arith) known;
+              place = same_place stands number s r id v w at live empty empty;
+            }),
+        ((λ _. (refl, omega arith, entries_between number x r.log v.seen k.rest k.prefix fresh)), λ miss. absurd (miss hit)),
+      ))
       (λ miss. (
         v,
         keeps,
@@ -101,7 +101,7 @@ module _ {T E : Type 0} (stands : T → List E → T → Type 0) (number : E →
       → get_elem? (set s.views id a ++ b ∷ []) j ≡ some u → u.drawn ≡ true → get_elem? s.views j ≡ some u
   drawn_before s id v a b free free' j u e d = ⊎_elim
       (λ (old : get_elem? (set s.views id a) j ≡ some u). at_change (λ i x. x.drawn ≡ true → get_elem? s.views i ≡ some x) s.views id a
-          (λ dx. let f : false ≡ true = sym free ∙ dx in cc) (λ i x _ at _. at) j u old d)
+      (λ dx. let f : false ≡ true = sym free ∙ dx in cc) (λ i x _ at _. at) j u old d)
       (λ (new : b ≡ u). let f : false ≡ true = sym free' ∙ (ap (λ (z : V). z.drawn) new ∙ d) in cc)
       (at_snoc (set s.views id a) b u j e)
 
@@ -130,7 +130,7 @@ module _ {T E : Type 0} (stands : T → List E → T → Type 0) (number : E →
             let p = total-append (share (1 + r.top)) vs (b ∷ []) in
             let q = total-set (share (1 + r.top)) s.views id v a at in
             let z : total (share (1 + r.top)) s.views ≡ 2 * total (share r.top) s.views = total-scaled (share (1 + r.top)) (share r.top) 2 s.views
-                (λ j u e. finer 1 r.top u (λ lu. (r.each j u e lu).cut)) in
+            (λ j u e. finer 1 r.top u (λ lu. (r.each j u e lu).cut)) in
             let y : share (1 + r.top) v ≡ 2 * share r.top v = finer 1 r.top v (λ _. cut) in
             let all = r.shares in
             let power : 2 ^ (1 + r.top) ≡ 2 * 2 ^ r.top = pow-add 2 1 r.top in omega arith;
@@ -146,22 +146,22 @@ module _ {T E : Type 0} (stands : T → List E → T → Type 0) (number : E →
             r.apart i j x y (drawn_before s id v a b free free i x e dx) (drawn_before s id v a b free free j y d dy) lx ly dx dy same;
         each = λ j u e lu. ⊎_elim
             (λ (old : get_elem? vs j ≡ some u). at_change (λ _ x. x.live ≡ true → Knows number r.base r.log (1 + r.top) r.tickets r.serving r.given x) s.views id a
-                (λ _. record {
-                  based = k.based;
-                  rest = k.rest;
-                  prefix = k.prefix;
-                  ended = k.ended;
-                  unused = λ m c. let z : c.0 < 0 = c.1 in absurd (omega arith);
-                  some_share = k.some_share;
-                  cut = omega arith;
-                  knows_given = k.knows_given;
-                  numbers = k.numbers;
-                  spare_known = λ i d lt. absurd (omega arith);
-                  waits = k.waits;
-                  holder = k.holder;
-                  joined = k.joined;
-                })
-                (λ i x _ at_x lx. raised number r.base r.log 1 r.top r.tickets r.serving r.given x (r.each i x at_x lx)) j u old lu)
+            (λ _. record {
+              based = k.based;
+              rest = k.rest;
+              prefix = k.prefix;
+              ended = k.ended;
+              unused = λ m c. let z : c.0 < 0 = c.1 in absurd (omega arith);
+              some_share = k.some_share;
+              cut = omega arith;
+              knows_given = k.knows_given;
+              numbers = k.numbers;
+              spare_known = λ i d lt. absurd (omega arith);
+              waits = k.waits;
+              holder = k.holder;
+              joined = k.joined;
+            })
+            (λ i x _ at_x lx. raised number r.base r.log 1 r.top r.tickets r.serving r.given x (r.each i x at_x lx)) j u old lu)
             (λ (new : b ≡ u). subst (λ (x : V). Knows number r.base r.log (1 + r.top) r.tickets r.serving r.given x) new record {
               based = k.based;
               rest = k.rest;

@@ -40,7 +40,7 @@ module _ {T E : Type 0} (stands : T → List E → T → Type 0) (number : E →
       → (i : ℕ) × (u : V) × (get_elem? (set s.views id w) i ≡ some u) × (u.live ≡ true) × (u.seen ≡ r.log)
   same_last s r id v w at live same = let l = r.last in dite (ℕ_discrete l.0 id)
       (λ e. let x : v ≡ l.1 = some-injective v l.1 (sym at ∙ (sym (ap (λ i. get_elem? s.views i) e) ∙ l.2)) in
-          (id, w, in_range s.views id v w at, live, same ∙ (ap (λ (z : V). z.seen) x ∙ l.4)))
+      (id, w, in_range s.views id v w at, live, same ∙ (ap (λ (z : V). z.seen) x ∙ l.4)))
       (λ ne. (l.0, l.1, set_else s.views id l.0 w ne ∙ l.2, l.3, l.4))
 
   -- the holder is another pass
@@ -121,7 +121,7 @@ module _ {T E : Type 0} (stands : T → List E → T → Type 0) (number : E →
       → Home stands r.base r.log s.homes s.views
   at_home s r id v at live drawn empty mine = ⊎_elim (λ (h : Home stands r.base r.log s.homes s.views). h)
       (λ (a : Away s.homes s.views). let q = (r.each a.seat a.known a.at a.live).holder a.holds in
-          absurd (elsewhere s r id v a at empty (sym (r.apart id a.seat v a.known at a.at live a.live drawn q.0 (mine ∙ sym q.1)))))
+      absurd (elsewhere s r id v a at empty (sym (r.apart id a.seat v a.known at a.at live a.live drawn q.0 (mine ∙ sym q.1)))))
       r.place
 
   pub met_nothing : (seen : List E) → Joined number seen met_nobody
@@ -137,56 +137,59 @@ module _ {T E : Type 0} (stands : T → List E → T → Type 0) (number : E →
   looks slots id m live drawn empty bare s r _ at _ = let x : ℕ = get_or s.words 1 0 in let v : V = m.0 in
       let here : x ≡ r.serving = ap (λ ws. get_or ws 1 0) r.words in dite (ℕ_discrete x v.ticket)
       (λ hit. let w : V = holding r.log v in let mine : v.ticket ≡ r.serving = sym hit ∙ here in
-          let h = at_home s r id v at live drawn empty mine in let k = r.each id v at live in (
-            w,
-            takes 0 (Some h.value),
-            ap (λ hs. get_elem? hs 0) h.home,
-            changed stands number s r id v w (set s.words 1 x) (set s.homes 0 none) r.log r.tickets r.serving r.given at record {
-              words = ap (λ ws. set ws 1 (get_or ws 1 0)) r.words;
-              fits = r.fits;
-              order = r.order;
-              live = live;
-              same_share = refl;
-              names = λ h. refl;
-              callers = r.callers;
-              last = (id, w, in_range s.views id v w at, live, refl);
-              apart = λ j u ne e lu _ du same. ne (sym (r.apart id j v u at e live lu drawn du same));
-              mine = record {
-                based = k.based;
-                rest = [];
-                prefix = sym (append-nil r.log);
-                ended = λ n c. refl;
-                unused = k.unused;
-                some_share = k.some_share;
-                cut = k.cut;
-                knows_given = k.knows_given;
-                numbers = k.numbers;
-                spare_known = k.spare_known;
-                waits = k.waits;
-                holder = λ _. (drawn, mine, refl);
-                joined = met_nothing r.log;
-              };
-              others = λ j u _ _ _ known. known;
-              place = inr record {
-                seat = id;
-                known = w;
-                away = ap (λ hs. set hs 0 none) h.home;
-                at = in_range s.views id v w at;
-                live = live;
-                holds = refl;
-              };
-            },
-            ((λ _. record {
-              log = r.log;
-              value = h.value;
-              base = r.base;
-              based = k.based;
-              seat = ap (λ c. (w, (0, Some h.value) ∷ c)) bare;
-              stood = h.stood;
-              later = (k.rest, k.prefix);
-              same = λ n c. entries_before number n r.log v.seen k.rest k.prefix (k.ended n c);
-            }), λ miss. absurd (miss hit)),
-          ))
+      let h = at_home s r id v at live drawn empty mine in let k = r.each id v at live in (
+        w,
+        takes 0 (Some h.value),
+        ap (λ hs. get_elem? hs 0) h.home,
+        changed stands number s r id v w (set s.words 1 x) (set s.homes 0 none) r.log r.tickets r.serving r.given at record {
+          words = ap (λ ws. set ws 1 (get_or ws 1 0)) r.words;
+          fits = r.fits;
+          order = r.order;
+          live = live;
+          same_share = refl;
+          names = λ h. refl;
+          callers = r.callers;
+          last = (id, w, in_range s.views id v w at, live, refl);
+          apart = λ j u ne e lu _ du same. ne (sym (r.apart id j v u at e live lu drawn du same));
+          mine = record {
+            based = k.based;
+            rest = [];
+            prefix = sym (append-nil r.log);
+            ended = λ n c. refl;
+            unused = k.unused;
+            some_share = k.some_share;
+            cut = k.cut;
+            knows_given = k.knows_given;
+            numbers = k.numbers;
+            spare_known = k.spare_known;
+            waits = k.waits;
+            holder = λ _. (drawn, mine, refl);
+            joined = met_nothing r.log;
+          };
+          others = λ j u _ _ _ known. known;
+          place = inr record {
+            seat = id;
+            known = w;
+            away = ap (λ hs. set hs 0 none) h.home;
+            at = in_range s.views id v w at;
+            live = live;
+            holds = refl;
+          };
+        },
+        (
+          (λ _. record {
+            log = r.log;
+            value = h.value;
+            base = r.base;
+            based = k.based;
+            seat = ap (λ c. (w, (0, Some h.value) ∷ c)) bare;
+            stood = h.stood;
+            later = (k.rest, k.prefix);
+            same = λ n c. entries_before number n r.log v.seen k.rest k.prefix (k.ended n c);
+          }),
+          λ miss. absurd (miss hit),
+        ),
+      ))
       (λ miss. (v, keeps, tt, unmoved stands number s r 1 id m at, ((λ hit. absurd (miss hit)), λ _. refl)))
 
   -- what the other passes know once the turn of v is passed on
@@ -197,7 +200,7 @@ module _ {T E : Type 0} (stands : T → List E → T → Type 0) (number : E →
       let later_ticket : u.drawn ≡ true → u.ticket ≢ r.serving = λ du same. ne (sym (r.apart id j v u at e live lu drawn du (mine ∙ sym same))) in
       let named_here : 1 ≤ total (is v.number) (numbers_of v) + total (is v.number) v.spare = let q = is_same v.number in omega arith in
       let other : (n : ℕ) → 1 ≤ total (is n) (numbers_of u) + total (is n) u.spare → n ≢ v.number = λ n some same.
-          foreign stands number s r id j v u v.number (λ q. ne (sym q)) at e live lu named_here (subst (λ z. 1 ≤ total (is z) (numbers_of u) + total (is z) u.spare) same some) in
+      foreign stands number s r id j v u v.number (λ q. ne (sym q)) at e live lu named_here (subst (λ z. 1 ≤ total (is z) (numbers_of u) + total (is z) u.spare) same some) in
       record {
         based = k.based;
         rest = k.rest ++ es;

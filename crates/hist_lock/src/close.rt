@@ -20,10 +20,7 @@ impl<T: Standing> HistLock<T> {
         ensures callers { IfOk result (λ r. All (λ e. Contains (numbers_of (view r.1.seat)) (T.number e)) (view r.1.seat).seen) }
         ensures err { IfErr result (λ r. (r.0 ≡ self) × (r.1.seat.table_id ≡ pass.seat.table_id) × (view r.1.seat ≡ view pass.seat)) }
     {
-        let found = self
-            .table
-            .shared
-            .load::<Closing>(&mut pass.seat, NUMBERS);
+        let found = self.table.shared.load::<Closing>(&mut pass.seat, NUMBERS);
         if pass.ended != found - 1 {
             return Err((self, pass));
         }

@@ -4,8 +4,8 @@ ghost use Rattle.hist_lock.specs.History.{entries};
 ghost use Rattle.hist_lock.specs.Known.{numbers_of};
 
 use crate::view::View;
-use hist_standing::Standing;
 use atomic_table::Seat;
+use hist_standing::Standing;
 
 /// A caller's token for one lock. Clauses see what it knows as `view pass.seat`.
 ///

@@ -5,8 +5,8 @@ ghost use Rattle.hist_lock.specs.Known.{closed};
 ghost use Rattle.std.specs.Prelude.{List, []};
 
 use crate::view::View;
-use hist_standing::Standing;
 use atomic_table::{Join, Play, Split};
+use hist_standing::Standing;
 use std::marker::{Brand, PhantomData};
 
 /// The draw of a ticket.

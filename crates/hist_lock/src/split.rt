@@ -32,10 +32,7 @@ impl<T: Standing> HistLock<T> {
         ensures empty { ((view result.seat).mine ≡ []) × ((view result.seat).under ≡ []) }
     {
         let number = self.name(rt, &mut pass.seat);
-        let seat = self
-            .table
-            .shared
-            .split_seat::<Halve>(&mut pass.seat);
+        let seat = self.table.shared.split_seat::<Halve>(&mut pass.seat);
         Pass {
             seat,
             number,
@@ -90,13 +87,8 @@ impl<T: Standing> HistLock<T> {
             number: _,
             ended,
         } = other;
-        self.table
-            .shared
-            .join_seat::<Unite>(&mut pass.seat, seat);
-        let _ = self
-            .table
-            .shared
-            .load::<Meet>(&mut pass.seat, NUMBERS);
+        self.table.shared.join_seat::<Unite>(&mut pass.seat, seat);
+        let _ = self.table.shared.load::<Meet>(&mut pass.seat, NUMBERS);
         pass.ended = pass.ended + ended + 1;
     }
 }

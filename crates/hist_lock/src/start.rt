@@ -33,11 +33,20 @@ impl<T: Standing> HistLock<T> {
                     asleep: AtomicU64::new(0),
                     spins: SPINS,
                 };
-                Ok((lock, Pass { seat, number: 0, ended: 0 }))
+                Ok((
+                    lock,
+                    Pass {
+                        seat,
+                        number: 0,
+                        ended: 0,
+                    },
+                ))
             }
             Err(Refused { mut slots }) => {
                 let last = slots.pop();
-                let Some(Some(value)) = last else { unreachable!() };
+                let Some(Some(value)) = last else {
+                    unreachable!()
+                };
                 slots.destroy_empty();
                 Err((AllocError, value))
             }

@@ -4,8 +4,8 @@ ghost use Rattle.hist_lock.specs.Known.{IsPassOf};
 
 mod log;
 
-use crate::{HistLock, Pass};
 use crate::wait::SPINS;
+use crate::{HistLock, Pass};
 use log::{Line, Log, Write};
 use std::alloc::{AllocError, Global};
 use std::process::Abort;
@@ -31,7 +31,10 @@ fn write_lines<R: Threads + Wait + Sync>(rt: &R, lock: &HistLock<Log>, task: &mu
             written: false,
         };
         lock.turn(rt, &mut task.pass, &mut act);
-        let Write { text: _, written: _ } = act;
+        let Write {
+            text: _,
+            written: _,
+        } = act;
     }
 }
 
@@ -66,7 +69,10 @@ fn write_by_threads<R: Threads + Wait + Sync>(
         { write_lines(rt, lock, task) },
     );
     while let Some(task) = tasks.pop() {
-        let Task { pass: other, lines: _ } = task;
+        let Task {
+            pass: other,
+            lines: _,
+        } = task;
         lock.join(pass, other);
     }
     Ok(())
@@ -113,7 +119,10 @@ fn the_value_is_what_the_callers_did_in_one_order(rt: HostRuntime) -> Result<(),
         let Ok((log, _pass)) = lock.close(pass) else {
             panic!(rt; "{threads} threads: the lock can't be closed")
         };
-        assert!(rt; is_in_order(log.lines.as_slice(), threads as u64, lines), "{threads} threads");
+        assert!(rt;
+            is_in_order(log.lines.as_slice(), threads as u64, lines),
+            "{threads} threads"
+        );
     }
     Ok(())
 }

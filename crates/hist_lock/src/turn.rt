@@ -19,12 +19,7 @@ use std::thread::Threads;
 impl<T: Standing> HistLock<T> {
     /// Waits for the pass's turn, acts once on the value, and passes the turn on.
     /// It doesn't return once 2^64 - 1 turns were drawn.
-    pub fn turn<A: Act<T>, R: Threads + Wait + Sync>(
-        &self,
-        rt: &R,
-        pass: &mut Pass<T>,
-        act: &mut A,
-    )
+    pub fn turn<A: Act<T>, R: Threads + Wait + Sync>(&self, rt: &R, pass: &mut Pass<T>, act: &mut A)
         requires pass { IsPassOf self.now.table.shared.table_id pass.old.seat }
         requires may { (base : T) (log : List T.Entry) → (view pass.old.seat).base ≡ Some base
             → StartsWith log (view pass.old.seat).seen
@@ -64,7 +59,9 @@ fn act_once<T: Standing, A: Act<T>>(
         × ((base : T) × (value : T) × (seat.old.me.0.base ≡ Some base) × T.stands base (seat.old.me.0.seen ++ es) value) }
 {
     let taken = shared.exchange(seat, 0, None);
-    let Some(mut value) = taken else { unreachable!() };
+    let Some(mut value) = taken else {
+        unreachable!()
+    };
     let asked = Snapshot::of(act);
     let before = Snapshot::of(&value);
     act.act(&mut value, caller);

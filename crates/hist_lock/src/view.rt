@@ -6,8 +6,8 @@
 //!   word 2  numbers   how many numbers were given to passes
 //!   slot 0            the value, or nothing while the holder of a turn has it
 //! ```
-use hist_standing::Standing;
 use atomic_table::TableRule;
+use hist_standing::Standing;
 use std::collections::LinkedList;
 use std::snapshot::Snapshot;
 

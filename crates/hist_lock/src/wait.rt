@@ -103,7 +103,9 @@ impl<T: Standing> HistLock<T> {
     // Sleeps while `serving` is the ticket that is served. It may also return for no reason.
     fn sleep<R: Wait>(&self, rt: &R, serving: u64) {
         self.asleep.store(1, SeqCst);
-        self.table.shared.park(rt, SERVING, (serving & 0xffff_ffff) as u32);
+        self.table
+            .shared
+            .park(rt, SERVING, (serving & 0xffff_ffff) as u32);
         self.asleep.store(1, SeqCst);
     }
 

@@ -15,8 +15,8 @@ pass_on-requires-clause-home g c =
     let view : c.exchange-hole.new.seat.me.0 ≡ c.args.seat.now.me.0 = ap (λ (m : Sat g.row.T.Denot g.row.T-Entry.Denot). m.0) (c.exchange-hole.ensures.3 ∙ ap (λ (m : Sat g.row.T.Denot g.row.T-Entry.Denot). (m.0, (0, Some c.act.new.value) ∷ rest m.1)) c.exchange-taken.ensures.3) in
     let bare : rest c.exchange-taken.new.seat.me.1 ≡ [] = ap (λ (m : Sat g.row.T.Denot g.row.T-Entry.Denot). rest m.1) c.exchange-taken.ensures.3 ∙ ap rest h.3 in
     let same : g.A.Act.adds c.of-asked.result.value c.of-before.result.value c.of-answered.result.value c.of-after.result.value c.args.caller
-        ≡ g.A.Act.adds c.args.act.now c.in-Some.value c.act.new.self c.act.new.value c.args.caller =
-        λ i. g.A.Act.adds (c.of-asked.ensures i) (c.of-before.ensures i) (c.of-answered.ensures i) (c.of-after.ensures i) c.args.caller in
+    ≡ g.A.Act.adds c.args.act.now c.in-Some.value c.act.new.self c.act.new.value c.args.caller =
+    λ i. g.A.Act.adds (c.of-asked.ensures i) (c.of-before.ensures i) (c.of-answered.ensures i) (c.of-after.ensures i) c.args.caller in
     let slots : (0, c.exchange-taken.result) ∷ rest c.args.seat.now.me.1 ≡ (0, Some h.1) ∷ [] = sym c.exchange-taken.ensures.2 ∙ h.3 in
     let is_it : c.in-Some.value ≡ h.1 = taken c.exchange-taken.result h.1 c.in-Some.value (rest c.args.seat.now.me.1) slots c.in-Some.is in
     let stood : g.T.Standing.stands h.0 c.args.seat.now.me.0.seen c.in-Some.value = subst (λ x. g.T.Standing.stands h.0 c.args.seat.now.me.0.seen x) (sym is_it) h.4 in
@@ -33,8 +33,8 @@ returns-clause-acted g c =
     let h = c.requires.value in
     let view : c.exchange-hole.new.seat.me.0 ≡ c.args.seat.now.me.0 = ap (λ (m : Sat g.row.T.Denot g.row.T-Entry.Denot). m.0) (c.exchange-hole.ensures.3 ∙ ap (λ (m : Sat g.row.T.Denot g.row.T-Entry.Denot). (m.0, (0, Some c.act.new.value) ∷ rest m.1)) c.exchange-taken.ensures.3) in
     let same : g.A.Act.adds c.of-asked.result.value c.of-before.result.value c.of-answered.result.value c.of-after.result.value c.args.caller
-        ≡ g.A.Act.adds c.args.act.now c.in-Some.value c.act.new.self c.act.new.value c.args.caller =
-        λ i. g.A.Act.adds (c.of-asked.ensures i) (c.of-before.ensures i) (c.of-answered.ensures i) (c.of-after.ensures i) c.args.caller in
+    ≡ g.A.Act.adds c.args.act.now c.in-Some.value c.act.new.self c.act.new.value c.args.caller =
+    λ i. g.A.Act.adds (c.of-asked.ensures i) (c.of-before.ensures i) (c.of-answered.ensures i) (c.of-after.ensures i) c.args.caller in
     let slots : (0, c.exchange-taken.result) ∷ rest c.args.seat.now.me.1 ≡ (0, Some h.1) ∷ [] = sym c.exchange-taken.ensures.2 ∙ h.3 in
     let is_it : c.in-Some.value ≡ h.1 = taken c.exchange-taken.result h.1 c.in-Some.value (rest c.args.seat.now.me.1) slots c.in-Some.is in
     let stood : g.T.Standing.stands h.0 c.args.seat.now.me.0.seen c.in-Some.value = subst (λ x. g.T.Standing.stands h.0 c.args.seat.now.me.0.seen x) (sym is_it) h.4 in (

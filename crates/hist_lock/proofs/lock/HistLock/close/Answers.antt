@@ -25,10 +25,10 @@ last : (g : Over) (c : After-free g) → Last g.T.Standing.stands g.T.Standing.n
 last g c =
     let p = c.args.pass in
     let is : c.split_seat-memo.new.seat.me.0 ≡ p.seat.me.0 =
-        ap (λ (m : Sat g.row.T.Denot g.row.T-Entry.Denot). m.0) c.split_seat-memo.ensures.2 ∙ ap (λ (m : Sat g.row.T.Denot g.row.T-Entry.Denot). m.0) c.load-found.ensures.2.0 in
+    ap (λ (m : Sat g.row.T.Denot g.row.T-Entry.Denot). m.0) c.split_seat-memo.ensures.2 ∙ ap (λ (m : Sat g.row.T.Denot g.row.T-Entry.Denot). m.0) c.load-found.ensures.2.0 in
     let count : c.load-found.result ≡ length (numbers_of p.seat.me.0) = counted p.ended c.load-found.result (length p.seat.me.0.under) p.ended_is c.load-found.ensures.2.1 c.if-pass-found.false in
     let final = subst (λ (v : View g.row.T.Denot g.row.T-Entry.Denot). Final (Seen (Kept g.T.Standing.stands g.T.Standing.number) c.split_seat-memo.new.seat.id v)
-        (slots_items c.close_with-last.result.words) (slots_items c.close_with-last.result.slots)) is c.close_with-last.ensures.values.2 in
+    (slots_items c.close_with-last.result.words) (slots_items c.close_with-last.result.slots)) is c.close_with-last.ensures.values.2 in
     ends _ _ _ p.seat.me.0 _ _ c.requires.pass.1 p.holds p.spare (c.load-found.ensures.2.2.1 count) final
 
 pub unreachable-requires : goal.unreachable-requires
@@ -39,7 +39,7 @@ pub returns-clause-value : goal.returns-clause-value
 returns-clause-value g c =
     let l = last g (goal.at.returns-clause-value g c).After-free in
     let now : c.split_seat-memo.result.me ≡ (closed c.args.pass.seat.me.0, []) =
-        c.split_seat-memo.ensures.4 ∙ ap (λ (m : Sat g.row.T.Denot g.row.T-Entry.Denot). (closed m.0, [])) c.load-found.ensures.2.0 in
+    c.split_seat-memo.ensures.4 ∙ ap (λ (m : Sat g.row.T.Denot g.row.T-Entry.Denot). (closed m.0, [])) c.load-found.ensures.2.0 in
     let value : l.value ≡ c.in-Some.value = same_slot (slots_items c.close_with-last.result.slots) l.value c.in-Some.value l.slot c.in-Some.ensures.value in
     let P : Sat g.row.T.Denot g.row.T-Entry.Denot × g.row.T.Denot → Type 0 = λ z. g.T.Standing.stands l.base z.0.0.seen z.1 in (
       l.base,
@@ -51,5 +51,5 @@ pub returns-clause-callers : goal.returns-clause-callers
 returns-clause-callers g c =
     let l = last g (goal.at.returns-clause-callers g c).After-free in
     let now : c.split_seat-memo.result.me ≡ (closed c.args.pass.seat.me.0, []) =
-        c.split_seat-memo.ensures.4 ∙ ap (λ (m : Sat g.row.T.Denot g.row.T-Entry.Denot). (closed m.0, [])) c.load-found.ensures.2.0 in
+    c.split_seat-memo.ensures.4 ∙ ap (λ (m : Sat g.row.T.Denot g.row.T-Entry.Denot). (closed m.0, [])) c.load-found.ensures.2.0 in
     subst (λ (m : Sat g.row.T.Denot g.row.T-Entry.Denot). All (λ e. Contains (numbers_of m.0) (g.T.Standing.number e)) m.0.seen) (sym now) l.named_all

@@ -28,7 +28,7 @@ invariant_of-pass g c =
     let p = c.args.pass.now in let o = c.args.other in let v = p.seat.me.0 in let w = o.seat.me.0 in
     let now : c.load.new.seat.me ≡ (both v w, p.seat.me.1) = c.load.ensures.2.0 ∙ c.join_seat.ensures.2 in
     let met : Joined g.T.Standing.number (both v w).seen (both v w).met =
-        subst (λ (m : Sat g.row.T.Denot g.row.T-Entry.Denot). Joined g.T.Standing.number m.0.seen m.0.met) c.join_seat.ensures.2 c.load.ensures.2.1 in
+    subst (λ (m : Sat g.row.T.Denot g.row.T-Entry.Denot). Joined g.T.Standing.number m.0.seen m.0.met) c.join_seat.ensures.2 c.load.ensures.2.1 in
     let under : length c.load.new.seat.me.0.under ≡ length (v.under ++ w.number ∷ w.under) = ap (λ (m : Sat g.row.T.Denot g.row.T-Entry.Denot). length m.0.under) now in
     let count = length-append v.under (w.number ∷ w.under) in let mine = p.ended_is in let theirs = o.ended_is in
     record {
@@ -48,22 +48,22 @@ returns-clause-joined g c =
     let p = c.args.pass.now in let o = c.args.other in let v = p.seat.me.0 in let w = o.seat.me.0 in
     let now : c.load.new.seat.me ≡ (both v w, p.seat.me.1) = c.load.ensures.2.0 ∙ c.join_seat.ensures.2 in
     let met : Joined g.T.Standing.number c.load.new.seat.me.0.seen (both v w).met =
-        subst (λ (m : Sat g.row.T.Denot g.row.T-Entry.Denot). Joined g.T.Standing.number m.0.seen (both v w).met) (sym c.load.ensures.2.0)
-        (subst (λ (m : Sat g.row.T.Denot g.row.T-Entry.Denot). Joined g.T.Standing.number c.join_seat.new.seat.me.0.seen m.0.met) c.join_seat.ensures.2 c.load.ensures.2.1) in
+    subst (λ (m : Sat g.row.T.Denot g.row.T-Entry.Denot). Joined g.T.Standing.number m.0.seen (both v w).met) (sym c.load.ensures.2.0)
+    (subst (λ (m : Sat g.row.T.Denot g.row.T-Entry.Denot). Joined g.T.Standing.number c.join_seat.new.seat.me.0.seen m.0.met) c.join_seat.ensures.2 c.load.ensures.2.1) in
     joined_other g.T.Standing.number v w c.load.new.seat.me.0.seen met o.own
 
 pub returns-clause-ended : goal.returns-clause-ended
 returns-clause-ended g c =
     let p = c.args.pass.now in let o = c.args.other in let v = p.seat.me.0 in let w = o.seat.me.0 in
     let met : Joined g.T.Standing.number c.load.new.seat.me.0.seen (both v w).met =
-        subst (λ (m : Sat g.row.T.Denot g.row.T-Entry.Denot). Joined g.T.Standing.number m.0.seen (both v w).met) (sym c.load.ensures.2.0)
-        (subst (λ (m : Sat g.row.T.Denot g.row.T-Entry.Denot). Joined g.T.Standing.number c.join_seat.new.seat.me.0.seen m.0.met) c.join_seat.ensures.2 c.load.ensures.2.1) in
+    subst (λ (m : Sat g.row.T.Denot g.row.T-Entry.Denot). Joined g.T.Standing.number m.0.seen (both v w).met) (sym c.load.ensures.2.0)
+    (subst (λ (m : Sat g.row.T.Denot g.row.T-Entry.Denot). Joined g.T.Standing.number c.join_seat.new.seat.me.0.seen m.0.met) c.join_seat.ensures.2 c.load.ensures.2.1) in
     joined_other_under g.T.Standing.number v w c.load.new.seat.me.0.seen met
 
 pub returns-clause-settled : goal.returns-clause-settled
 returns-clause-settled g c =
     let p = c.args.pass.now in let o = c.args.other in let v = p.seat.me.0 in let w = o.seat.me.0 in
     let met : Joined g.T.Standing.number c.load.new.seat.me.0.seen (both v w).met =
-        subst (λ (m : Sat g.row.T.Denot g.row.T-Entry.Denot). Joined g.T.Standing.number m.0.seen (both v w).met) (sym c.load.ensures.2.0)
-        (subst (λ (m : Sat g.row.T.Denot g.row.T-Entry.Denot). Joined g.T.Standing.number c.join_seat.new.seat.me.0.seen m.0.met) c.join_seat.ensures.2 c.load.ensures.2.1) in
+    subst (λ (m : Sat g.row.T.Denot g.row.T-Entry.Denot). Joined g.T.Standing.number m.0.seen (both v w).met) (sym c.load.ensures.2.0)
+    (subst (λ (m : Sat g.row.T.Denot g.row.T-Entry.Denot). Joined g.T.Standing.number c.join_seat.new.seat.me.0.seen m.0.met) c.join_seat.ensures.2 c.load.ensures.2.1) in
     joined_under g.T.Standing.number v w c.load.new.seat.me.0.seen met
