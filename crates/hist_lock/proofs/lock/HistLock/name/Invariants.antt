@@ -1,0 +1,8 @@
+-- A number that another pass got changes nothing.
+use Rattle.std.proofs.Common.{◌≡◌}
+use Rattle.hist_lock.proofs.lock.HistLock.name.Given as goal
+
+abbrev pub invariant-loop : goal.invariant-loop
+invariant-loop g l =
+    (goal.iterator-loop g).can_next l.iterator' × (goal.iterator-loop g).is_finite l.iterator'
+    × (l.seat.table_id ≡ l.initial.seat.table_id) × (l.seat.me ≡ l.initial.seat.me)
