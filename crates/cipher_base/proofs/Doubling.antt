@@ -7,14 +7,11 @@ use Rattle.std.proofs.lemmas.Bool.{cases_lt, lt-ltb, le-ltb}
 use Rattle.std.proofs.lemmas.Nat.{or_shifted}
 use Rattle.vc_base.specs.Bytes.{IsBytes, from_bytes, to_bytes}
 use Rattle.vc_base.specs.Polynomial.{IsOfDegree, coefficients, number, reduced, remainder}
-use Rattle.vc_base.proofs.Remainders.{number-coefficients, reduced_below, remainder_below}
+use Rattle.vc_base.proofs.Remainders.{number-coefficients, reduced_below, reduced_low, remainder_below}
 use Rattle.vc_base.proofs.LongRemainders.{remainder_small}
 use Rattle.vc_base.proofs.Xor.{xor_parts}
 use Rattle.vc_base.proofs.Bytes.{from_bytes_below, from_bytes-to_bytes, to_bytes-from_bytes, IsBytes-to_bytes}
 use Rattle.cipher_base.specs.Field.{xts_polynomial, times_power}
-
-reduced_low : (n m a : ℕ) → a < 2 ^ n → reduced n m a ≡ a
-reduced_low n m a h = rw (lt-ltb a (2 ^ n) h)
 
 reduced_high : (n m a : ℕ) → 2 ^ n ≤ a → reduced n m a ≡ bit_xor a m
 reduced_high n m a h = rw (le-ltb a (2 ^ n) h)

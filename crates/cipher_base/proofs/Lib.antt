@@ -1,7 +1,5 @@
 -- a loop over the pieces of a list
 pub mod Loops
--- XOR of lists of bytes
-pub mod Masks
 -- times x in GF(2^128)
 pub mod Doubling
 -- sixteen bytes as two words

@@ -1,4 +1,4 @@
--- A stretch that is masked with T_0, T_1, .. as one list, enciphered block by block, and masked again is `xts`:
+-- A stretch that is changed_by_xor with T_0, T_1, .. as one list, enciphered block by block, and changed_by_xor again is `xts`:
 -- block j of it is whitened with T_j. And unit numbers that are enciphered together are the first tweaks.
 use Rattle.std.proofs.Common.{◌≡◌, ℕ, ◌+◌, ◌*◌, ◌/◌, ◌%◌, ◌<◌, ◌≤◌, List, ◌++◌, length, get_or, refl, sym, ap, ap₂, subst, ◌∙◌, arith}
 use Rattle.vc_base.specs.Bytes.{IsBytes, to_bytes, xor_bytes, piece, joined, in_pieces}
@@ -7,7 +7,7 @@ use Rattle.vc_base.proofs.Bytes.{IsBytes-to_bytes, IsBytes-xor, IsBytes-piece}
 use Rattle.cipher_base.specs.Field.{times_power}
 use Rattle.cipher_base.specs.Xts.{whitened}
 use Rattle.cipher_base.proofs.Doubling.{IsBytes-times_power}
-use Rattle.cipher_base.proofs.Masks.{length-xor_bytes, piece-xor_bytes}
+use Rattle.vc_base.proofs.XorBytes.{length-xor_bytes, piece-xor_bytes}
 
 pub stretched : (main : List ℕ → List ℕ) (first old tweaks : List ℕ)
     → ((b : List ℕ) → IsBytes 16 b → IsBytes 16 (main b))

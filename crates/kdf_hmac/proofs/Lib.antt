@@ -1,7 +1,7 @@
 -- the definitions, computed on rows of the standards
 pub mod Rows
--- the XOR of lists of bytes
-pub mod Xors
+-- a block XORed with one byte
+pub mod Pads
 -- digests, and a key as a block
 pub mod Keys
 -- a block of PBKDF2, step by step

@@ -14,7 +14,7 @@ use Rattle.kdf_hmac.specs.Hmac.{hmac_of, output_length, padded}
 use Rattle.kdf_hmac.specs.Pbkdf2.{u, t}
 use Rattle.kdf_hmac.specs.Laws.Progress.{Stepped}
 use Rattle.kdf_hmac.proofs.Keys.{length-hmac_of, take-padded}
-use Rattle.kdf_hmac.proofs.Xors.{length-xor_bytes, take-xor_bytes, xor_bytes-zeros}
+use Rattle.vc_base.proofs.XorBytes.{length-xor_bytes, take-xor_bytes, xor_bytes-zeros}
 
 module _ (prf : Prf) (p s : List ℕ) (i : ℕ) where
   -- ---- lengths, and one more step
@@ -46,7 +46,7 @@ module _ (prf : Prf) (p s : List ℕ) (i : ℕ) where
       = ap (λ (j : ℕ). length (u prf p s i j)) (add-one c) ∙ length-u c in
       ap (λ (j : ℕ). length (t prf p s j i)) (sym (add-one c))
       ∙ ap length (t_more c)
-      ∙ length-xor_bytes (t prf p s c i) (u prf p s i (c + 1)) (before ∙ sym last)
+      ∙ length-xor_bytes (t prf p s c i) (u prf p s i (c + 1)) (omega (arith, before, last))
       ∙ before
 
   pub t_one : t prf p s 1 i ≡ u prf p s i 1

@@ -13,7 +13,7 @@ use Rattle.std.proofs.lemmas.Nat.Bits.{bit_at-lt, bit_at_and, bit_at_or, bit_at_
 use Rattle.std.proofs.Math.Nat.{div-le_self}
 use Rattle.lane_kernels.specs.SerpentRounds.{AreWords, nibble, substituted}
 use Rattle.lane_kernels.specs.Laws.Lanes.{lane, AreLanes, InEachLane}
-use Rattle.vc_base.proofs.EachNumber.{agree_below, agree_at}
+use Rattle.vc_base.proofs.EachNumber.{agree_below, agree_at, both_of}
 use Rattle.lane_kernels.proofs.Nibbles.{of_four, HasBits, bits_of_nibble}
 use Rattle.lane_kernels.proofs.States.{are_four}
 use Rattle.lane_kernels.proofs.Substituted.{nibble-below, nibble-bits, same_state}
@@ -110,12 +110,6 @@ on_nibble-bit (either f g) n = omega (arith, on_nibble-bit f n, on_nibble-bit g 
 on_nibble-bit (neither f) n = omega arith
 on_nibble-bit (left k f) n = omega arith
 on_nibble-bit (right k f) n = omega arith
-
-both_of : (x y : Bool) → (x && y) ≡ true → (x ≡ true) × (y ≡ true)
-both_of true true h = (refl, refl)
-both_of true false h = cc
-both_of false true h = cc
-both_of false false h = cc
 
 -- bit i of the value on words is the value on nibble i
 bit_by_bit : (f : Formula) (x : List ℕ) (i : ℕ) → is_bitwise f ≡ true → AreWords 4 x → i < 32

@@ -9,7 +9,7 @@ unfoldable pub agree_below : (ℕ → ℕ) → (ℕ → ℕ) → ℕ → Bool
 agree_below f g zero = true
 agree_below f g (suc n) = eqb (f n) (g n) && agree_below f g n
 
-both_of : (x y : Bool) → (x && y) ≡ true → (x ≡ true) × (y ≡ true)
+pub both_of : (x y : Bool) → (x && y) ≡ true → (x ≡ true) × (y ≡ true)
 both_of true true h = (refl, refl)
 both_of true false h = cc
 both_of false true h = cc

@@ -18,3 +18,5 @@ pub mod EachNumber
 pub mod Bits
 -- a list in the chunks that the code takes
 pub mod Chunks
+-- the XOR of two lists of bytes
+pub mod XorBytes

@@ -1,8 +1,8 @@
 use Rattle.std.proofs.Common.{arith}
-use Rattle.kdf_hmac.proofs.Xors.{xor_of_elements}
+use Rattle.vc_base.proofs.XorBytes.{changed_by_xor}
 use Rattle.kdf_hmac.proofs.block.xor.Goals as goal
 
 pub returns : goal.returns
 returns c =
-    xor_of_elements c.bytes.out c.args.x.now c.args.y.now (omega arith) (omega arith)
+    changed_by_xor c.bytes.out c.args.x.now c.args.y.now (omega arith) (omega arith)
     (λ k h. c.bytes.invariant.1 k (omega arith))

@@ -2,7 +2,7 @@ use Rattle.std.proofs.Common.{◌≡◌, take, replicate, [], ap, ◌∙◌, sub
 use Rattle.vc_base.specs.Bytes.{xor_bytes}
 use Rattle.kdf_hmac.specs.Hmac.{block_length}
 use Rattle.kdf_hmac.proofs.Keys.{lengths}
-use Rattle.kdf_hmac.proofs.Xors.{xor_with_byte}
+use Rattle.kdf_hmac.proofs.Pads.{xor_with_byte}
 use Rattle.kdf_hmac.proofs.keyed.pad_hasher.Goals as goal
 
 pub returns : goal.returns

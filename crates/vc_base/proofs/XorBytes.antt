@@ -1,7 +1,10 @@
--- The XOR of two lists of bytes, of which the second may be longer: piece by piece, and byte by byte.
-use Rattle.std.proofs.Common.{◌≡◌, ℕ, zero, suc, ◌*◌, ◌<◌, ◌≤◌, List, [], ◌∷◌, length, take, drop, get_or, refl, sym, ap, ◌∙◌, arith}
-use Rattle.std.specs.Int.Bits.{bit_xor}
+-- The XOR of two lists of bytes: its length, its elements, its parts, and a list that was changed byte by byte.
+--
+-- All is by induction along both lists. The second list may be longer; what it has more doesn't count.
+use Rattle.std.proofs.Common.{◌≡◌, ℕ, zero, suc, ◌*◌, ◌<◌, ◌≤◌, List, [], ◌∷◌, length, take, drop, get_or, replicate, refl, sym, ap, ap₂, ◌∙◌, arith}
+use Rattle.std.specs.Int.Bits.{bit_xor, xor_zero_l}
 use Rattle.std.proofs.lemmas.Grind.{same_number_lists}
+use Rattle.std.proofs.lemmas.List.{get_or-replicate, length-replicate, take-replicate}
 use Rattle.vc_base.specs.Bytes.{xor_bytes, piece}
 
 pub length-xor_bytes : (xs ys : List ℕ) → length xs ≤ length ys → length (xor_bytes xs ys) ≡ length xs
@@ -42,9 +45,16 @@ get_or-xor_bytes (x ∷ xs) (y ∷ ys) zero h k = refl
 get_or-xor_bytes (x ∷ xs) (y ∷ ys) (suc i) h k = get_or-xor_bytes xs ys i (omega arith) (omega arith)
 
 -- a list that was changed byte by byte
-pub masked : (now old mask : List ℕ) → length now ≡ length old → length old ≤ length mask
+pub changed_by_xor : (now old mask : List ℕ) → length now ≡ length old → length old ≤ length mask
     → ((k : ℕ) → k < length old → get_or now k 0 ≡ bit_xor (get_or old k 0) (get_or mask k 0))
     → now ≡ xor_bytes old mask
-masked now old mask long within each =
+changed_by_xor now old mask long within each =
     same_number_lists now (xor_bytes old mask) (long ∙ sym (length-xor_bytes old mask within))
     (λ k h. let inside : k < length old = omega arith in each k inside ∙ sym (get_or-xor_bytes old mask k within inside))
+
+pub xor_bytes-zeros : (n : ℕ) (xs : List ℕ) → length xs ≡ n → xor_bytes (replicate n 0) xs ≡ xs
+unfolding xor_bytes
+xor_bytes-zeros zero [] e = refl
+xor_bytes-zeros zero (x ∷ xs) e = absurd (omega (arith, e))
+xor_bytes-zeros (suc n) [] e = absurd (omega (arith, e))
+xor_bytes-zeros (suc n) (x ∷ xs) e = ap₂ ◌∷◌ (xor_zero_l x) (xor_bytes-zeros n xs (omega (arith, e)))
