@@ -157,7 +157,7 @@ def format_bad_words(rows, folder):
 
 
 def format_orders(rows, folder):
-    """The same words in other orders, and with what stands where an option is not given."""
+    """The same arguments in other orders, and with the value that an option that is not given has."""
     path = os.path.join(folder, "orders.vc")
     image = formatted(SMALLEST, PASSWORD, 1, KEY, "sha256", "aes")
     options = [["--size", str(SMALLEST)], [f"--password={PASSWORD}"], ["--random", HEX],

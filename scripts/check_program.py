@@ -3,13 +3,13 @@
 
   check_program.py [PROGRAM]
 
-PROGRAM is crates/vcserve/out/vcserve where no other is named. It is not built here: `rt run` in
-crates/vcserve builds it (README.md). Each row runs it once and compares the exit status, the
+PROGRAM defaults to crates/vcserve/out/vcserve. It is not built here: `rt run` in crates/vcserve
+builds it (README.md). Each row runs it once and compares the exit status, the
 standard output, the standard error and the container after it: the same bytes as before, or those
 that `format` has to make (check_format.py). A row that is wrong is printed; the last line counts
 them. What can't be tried on this machine is printed too.
 
-The status is 1 where a row is wrong. Else it is 77 where the package `cryptography` is missing,
+The status is 1 if a row is wrong. Otherwise it is 77 if the package `cryptography` is missing,
 which all rows need, or libgcrypt, which those with Serpent and Twofish need.
 """
 import os

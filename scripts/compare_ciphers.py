@@ -3,16 +3,16 @@
 
   compare_ciphers.py [NAME] [CASES]
 
-NAME is a row of CIPHERS, `serpent` where none is named, and CASES how many keys and blocks are
-tried, 10000 where no number is given. The first cases have one bit set or none, the others are
+NAME is a row of CIPHERS, `serpent` if none is named, and CASES how many keys and blocks are
+tried, 10000 if no number is given. The first cases have one bit set or none, the others are
 random.
 
 No program of the repository enciphers single blocks. So a copy of the cipher's crate and of those
 below it is made in a temporary folder, with a program beside them that does, and `rt run` proves
 and builds it.
 
-The status is 0 where all answers agree; 1 where two differ, and then the case with the fewest bits
-is printed; 77 where libgcrypt or `rt` is missing.
+The status is 0 if all results agree; 1 if two differ, and then the case with the fewest bits is
+printed; 77 if libgcrypt or `rt` is missing.
 """
 import ctypes
 import ctypes.util

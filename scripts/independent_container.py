@@ -15,8 +15,8 @@ Twofish by libgcrypt. The headers are standard ones, and with `format` their bac
       a formatted container of SIZE bytes: ChaCha20 under KEY, 64 hexadecimal digits, fills it and
       gives the master keys after that; the standard header and its backup take salts from the fill
 
-The PRFs are sha512, which stands where none is named, and sha256. The algorithms are the names in
-ALGORITHMS, aes where none is named. The status is 77 where `cryptography` is missing, or libgcrypt
+The PRFs are sha512, the default, and sha256. The algorithms are the names in
+ALGORITHMS, aes by default. The status is 77 if `cryptography` is missing, or libgcrypt
 for an algorithm with Serpent or Twofish.
 """
 import argparse
@@ -220,7 +220,7 @@ def formatted(size, password, pim, key, prf="sha512", algorithm="aes"):
 
 
 def read(path, first, count, password, pim, prf="sha512", algorithm="aes"):
-    """The deciphered sectors; None where the header is not valid."""
+    """The deciphered sectors; None if the header is not valid."""
     fields = header_fields(path, 0, password, pim, prf, algorithm)
     if fields is None:
         return None

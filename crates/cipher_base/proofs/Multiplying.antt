@@ -1,5 +1,5 @@
 -- The product of two bytes from the highest bit of the second down: at each bit what was read so far is
--- multiplied by x, and where the bit is set the first byte is added. Bit 7 - i is read in iteration i.
+-- multiplied by x, and if the bit is set the first byte is added. Bit 7 - i is read in iteration i.
 use Rattle.std.proofs.Common.{◌≡◌, ◌≢◌, ℕ, ◌+◌, ◌-◌, ◌*◌, ◌/◌, ◌^◌, ◌<◌, ◌≤◌, sym, subst, arith}
 use Rattle.std.specs.Int.Bits.{bit_xor, bit_and}
 use Rattle.vc_base.specs.Polynomial.{IsOfDegree, IsRemainder, coefficients, times, reduced, product}

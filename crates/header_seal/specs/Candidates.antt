@@ -1,6 +1,6 @@
 -- Opening: the candidates that are tried, in their order, and the first valid one.
 --
--- A candidate is a slot with a PRF and an algorithm. It is valid in a container where the slot's body,
+-- A candidate is a slot with a PRF and an algorithm. It is valid in a container if the slot's body,
 -- deciphered under the keys that the PRF derives from password, PIM and the slot's salt, is valid.
 --
 -- candidates kind                   the candidates of a kind, by slot, then PRF, then algorithm
@@ -60,7 +60,7 @@ is_valid_in c image password pim = is_valid (plain_body c image password pim) c.
 abbrev pub fields_in : Candidate → List ℕ → List ℕ → ℕ → Fields
 fields_in c image password pim = fields_of (plain_body c image password pim)
 
--- what opening answers for a candidate
+-- what opening returns for a candidate
 abbrev pub candidate_of : Opened → Candidate
 candidate_of o = record { slot = o.slot; prf = o.prf; algorithm = o.algorithm }
 

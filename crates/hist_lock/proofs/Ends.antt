@@ -184,7 +184,7 @@ module _ {T E : Type 0} (stands : T → List E → T → Type 0) (number : E →
             r.place;
       }
 
-  -- what the last state says of the slot, where one pass has the whole share
+  -- what the last state says of the slot, if one pass has the whole share
   pub record Last (v : V) (slots : List (Option T)) : Type 0 where
     pub value : T
     pub base : T

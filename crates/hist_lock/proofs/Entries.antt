@@ -62,10 +62,10 @@ module _ {E : Type 0} (number : E → ℕ) where
   nothing [] ys e = refl
   nothing (x ∷ xs) ys e = cc
 
-  -- a list between two prefixes has none where the rest after the first has none
+  -- a list between two prefixes has none if what comes after the first has none
   pub entries_between : (n : ℕ) (r m q : List E) → r ≡ m ++ q → entries number n r ≡ [] → entries number n m ≡ []
   entries_between n r m q e none = nothing (entries number n m) (entries number n q) (sym (entries-append n m q) ∙ (ap (entries number n) (sym e) ∙ none))
 
-  -- a suffix has none where the list has none
+  -- a suffix has none if the list has none
   pub entries_after : (n : ℕ) (log seen rest : List E) → log ≡ seen ++ rest → entries number n log ≡ [] → entries number n rest ≡ []
   entries_after n log seen rest e none = nothing_after (entries number n seen) (entries number n rest) (sym (entries-append n seen rest) ∙ (ap (entries number n) (sym e) ∙ none))

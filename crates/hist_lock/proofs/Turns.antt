@@ -35,7 +35,7 @@ module _ {T E : Type 0} (stands : T → List E → T → Type 0) (number : E →
   abbrev St : Type 0
   St = State (Option T) (View T E)
 
-  -- someone has still seen the whole history, where the changed pass has seen as much as before
+  -- someone has still seen the whole history, if the changed pass has seen as much as before
   pub same_last : (s : St) (r : Kept stands number s) (id : ℕ) (v w : V) → get_elem? s.views id ≡ some v → w.live ≡ true → w.seen ≡ v.seen
       → (i : ℕ) × (u : V) × (get_elem? (set s.views id w) i ≡ some u) × (u.live ≡ true) × (u.seen ≡ r.log)
   same_last s r id v w at live same = let l = r.last in dite (ℕ_discrete l.0 id)

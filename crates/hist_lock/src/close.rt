@@ -10,7 +10,7 @@ use hist_standing::Standing;
 
 impl<T: Standing> HistLock<T> {
     /// Gives the value back, if the pass has the whole share: then every other pass of the lock has ended in it, or
-    /// in one that did. The answered pass is the handed one, which has seen the whole history.
+    /// in one that did. The pass that comes back is the one that was given, which has seen the whole history.
     /// Otherwise nothing has changed. It waits for nobody.
     pub fn close(self, mut pass: Pass<T>) -> Result<(T, Pass<T>), (HistLock<T>, Pass<T>)>
         requires pass { IsPassOf self.table.shared.table_id pass.seat }

@@ -1,7 +1,7 @@
 -- PBKDF2's bytes, block by block.
 --
--- Before block i the first n·i bytes stand in the output, or all of them where it has fewer: they are the
--- first bytes of T_1, .., T_i. The next block goes on from there, and is cut where the output ends.
+-- Before block i the output has its first n·i bytes, or all of them if it has fewer: they are the first bytes of
+-- T_1, .., T_i. The next block goes on from there, and is cut where the output ends.
 use Rattle.std.proofs.Common.{◌≡◌, ◌<◌, ◌≤◌, ℕ, zero, suc, ◌+◌, ◌-◌, ◌*◌, ◌/◌, min, List, [], ◌++◌, length, take}
 use Rattle.std.proofs.Common.{sym, ap, ap₂, ◌∙◌, subst, arith, add-one, mul-zero, take_all, length-append, length-take}
 use Rattle.std.proofs.Math.Seq.{take-append-add}
@@ -86,7 +86,7 @@ pub filled_as : (f : ℕ → List ℕ) (n m l k : ℕ) (out : List ℕ) (i : ℕ
 filled_as f n m l k out i e h before =
     subst (λ (x : ℕ). Filled f m x out i) h (subst (λ (x : ℕ). Filled f x l out i) e before)
 
--- ---- how many blocks there are, where the output has l bytes
+-- ---- how many blocks there are, if the output has l bytes
 
 pub block_starts : (prf : Prf) (l i : ℕ) → i < block_count prf l → output_length prf * i < l
 block_starts Sha512 l i inside = omega (arith, inside)
@@ -119,7 +119,7 @@ all_bytes prf p s c l out i whole last done =
     let enough : l ≤ n * i = omega (arith, bytes, blocks_suffice prf l) in
     filled_all (block prf p s c) n l out i whole enough done ∙ ap (λ (k : ℕ). take l (joined (block prf p s c) k)) last
 
--- the count, where the mac has the length of a block as n
+-- the count, if the mac has the length of a block as n
 pub count_is : (prf : Prf) (l n : ℕ) → n ≡ output_length prf → (l + n - 1) / n ≡ block_count prf l
 count_is prf l n n_is = ap (λ (k : ℕ). (l + k - 1) / k) n_is
 

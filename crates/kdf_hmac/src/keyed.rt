@@ -48,7 +48,7 @@ impl<H: Hasher> Keyed<H> {
     }
 }
 
-// The key as a block, with zeros after it where a block is shorter than the array.
+// The key as a block, with zeros after it if a block is shorter than the array.
 fn key_block<H: Hasher>(key: &[u8]) -> [u8; 128]
     ensures { take (block_length H.prf) result ≡ key_block H.prf key.now }
 {

@@ -1,5 +1,5 @@
 -- The rounds, one after the other, as the code counts them. Boxes are counted modulo 8, so the code
--- names box k where the definition has the round's number.
+-- names box k, and the definition has the round's number.
 use Rattle.std.proofs.Common.{◌≡◌, ◌-◌, ◌%◌, List, ℕ, suc, refl, sym, ap, ap₂, ◌∙◌, subst}
 use Rattle.lane_kernels.specs.SerpentRounds.{entry, inverse_entry, substituted, linear, inverse_linear, state, block, add_key, rounds, cipher, inverse_rounds, inverse_cipher}
 use Rattle.lane_kernels.proofs.Substituted.{entry_modulo, inverse_entry_modulo}

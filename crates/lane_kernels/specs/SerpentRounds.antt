@@ -61,7 +61,7 @@ substituted f x =
 
 -- ---- the linear transformation
 
--- the exclusive or of three words
+-- the XOR of three words
 abbrev pub xor_three : ℕ → ℕ → ℕ → ℕ
 xor_three a b c = bit_xor (bit_xor a b) c
 
