@@ -1,0 +1,2 @@
+-- small histories, legal and not
+pub mod Examples
