@@ -59,3 +59,12 @@ bytes_same w = (bytes_eq-Decides w w).1 refl
 
 pub same_text : (x y : Text) → bytes_eq x y ≡ true → x ≡ y
 same_text x y e = (bytes_eq-Decides x y).0 e
+
+pub bytes_turned : (x y : Text) → bytes_eq x y ≡ bytes_eq y x
+bytes_turned x y = go (bytes_eq x y) (bytes_eq y x) refl refl
+  where
+    go : (a b : Bool) → bytes_eq x y ≡ a → bytes_eq y x ≡ b → a ≡ b
+    go true true e g = refl
+    go false false e g = refl
+    go true false e g = sym (ap (λ t. bytes_eq t x) (sym (same_text x y e)) ∙ bytes_same x) ∙ g
+    go false true e g = sym e ∙ ap (λ t. bytes_eq x t) (same_text y x g) ∙ bytes_same x

@@ -10,15 +10,15 @@ use Rattle.clap.specs.Walk.{Rule, arg_by_id, arg_by_index, arg_by_long, has_long
 use Rattle.clap.specs.Simple.{filled_from}
 use Rattle.clap.specs.declared.builder.value_parser.ValueParser.TheVariants.{String}
 use Rattle.clap.proofs.WalkLemmas.{both}
-use Rattle.cmd_words.specs.Line.{Form, Text, is_in}
-use Rattle.cmd_words.specs.Names.{Names, flag_rule, form_of, is_apart, is_distinct, option_rule, place_rule, rules_of}
-use Rattle.cmd_words.proofs.Basics.{bytes_same, is_true, or_false, same_some, same_text, some_none}
-use Rattle.cmd_words.proofs.Left.{Serves, TakesOne}
+use Rattle.cmd_words.specs.Line.{Form, Text, is_distinct, is_in}
+use Rattle.cmd_words.specs.Laws.{flag_rule, is_apart, option_rule, place_rule, rules_of}
+use Rattle.cmd_words.proofs.Basics.{bytes_same, is_true, or_false, or_true, same_some, same_text, some_none}
+use Rattle.cmd_words.proofs.Left.{AreLeft, IsPlace, Serves, TakesOne}
 
 -- ---- the rules once they are built
 
-abbrev pub built_option : Bool → Text → Rule
-built_option required name = record (option_rule required name) {
+abbrev pub built_option : Text → Rule
+built_option name = record (option_rule name) {
   parser = Some String;
   range = Some (record { start_inclusive = 1; end_inclusive = 1 });
 }
@@ -37,14 +37,13 @@ abbrev pub built_places : ℕ → List Text → List Rule
 built_places i [] = []
 built_places i (x ∷ xs) = built_place i x ∷ built_places (i + 1) xs
 
-abbrev pub built_rules : Names → List Rule
-built_rules n = map (built_option true) n.required
-    ++ (map (built_option false) n.optional ++ (map built_flag n.flags ++ built_places 1 n.places))
+abbrev pub built_rules : Form → List Rule
+built_rules f = map built_option f.options ++ (map built_flag f.flags ++ built_places 1 f.positions)
 
-fill_options : (b : Bool) (xs : List Text) (rest : List Rule) (i : ℕ)
-    → filled_from i (map (option_rule b) xs ++ rest) ≡ map (built_option b) xs ++ filled_from i rest
-fill_options b [] rest i = refl
-fill_options b (x ∷ xs) rest i = ap (λ rs. built_option b x ∷ rs) (fill_options b xs rest i)
+fill_options : (xs : List Text) (rest : List Rule) (i : ℕ)
+    → filled_from i (map option_rule xs ++ rest) ≡ map built_option xs ++ filled_from i rest
+fill_options [] rest i = refl
+fill_options (x ∷ xs) rest i = ap (λ rs. built_option x ∷ rs) (fill_options xs rest i)
 
 fill_flags : (xs : List Text) (rest : List Rule) (i : ℕ)
     → filled_from i (map flag_rule xs ++ rest) ≡ map built_flag xs ++ filled_from i rest
@@ -57,12 +56,11 @@ fill_places (x ∷ xs) i lt =
     let next : min (i + 1) usize_max ≡ i + 1 = omega arith in
     ap (λ rs. built_place i x ∷ rs) (ap (λ k. filled_from k (map place_rule xs)) next ∙ fill_places xs (i + 1) (omega arith))
 
-pub rules_filled : (n : Names) → length n.places ≤ 3 → filled_from 1 (rules_of n) ≡ built_rules n
-rules_filled n few =
-    fill_options true n.required _ 1
-    ∙ ap (λ rs. map (built_option true) n.required ++ rs) (fill_options false n.optional _ 1
-    ∙ ap (λ rs. map (built_option false) n.optional ++ rs) (fill_flags n.flags _ 1
-    ∙ ap (λ rs. map built_flag n.flags ++ rs) (fill_places n.places 1 (omega arith))))
+pub rules_filled : (f : Form) → length f.positions ≤ 3 → filled_from 1 (rules_of f) ≡ built_rules f
+rules_filled f few =
+    fill_options f.options _ 1
+    ∙ ap (λ rs. map built_option f.options ++ rs) (fill_flags f.flags _ 1
+    ∙ ap (λ rs. map built_flag f.flags ++ rs) (fill_places f.positions 1 (omega arith)))
 
 -- ---- a search among rules that are made of names
 
@@ -106,8 +104,8 @@ at_place p i (suc q) (x ∷ xs) e =
     let miss : (i == p) ≡ false = ne_eqb i p other in
     rw miss (at_place p (i + 1) q xs (omega arith))
 
-option_takes_one : (b : Bool) (name : Text) → TakesOne (built_option b name)
-option_takes_one b name = record {
+option_takes_one : (name : Text) → TakesOne (built_option name)
+option_takes_one name = record {
   takes = refl;
   alone = refl;
   single = refl;
@@ -126,36 +124,43 @@ place_takes_one i name = record {
   trailing = refl;
 }
 
--- a position that is found by its place is found by its id
-record IsPlace (i : ℕ) (xs : List Text) (a : Rule) : Type 0 where
-  by_id : arg_by_id (built_places i xs) a.id ≡ Some a
-  named : is_in a.id xs ≡ true
-  one : TakesOne a
+in_places : (xs : List Text) (q : ℕ) (y : Text) → slice_get xs q ≡ Some y → is_in y xs ≡ true
+in_places [] q y e = absurd (some_none y e)
+in_places (x ∷ xs) zero y e = ap (λ b. b || is_in y xs) (ap (λ t. bytes_eq t y) (same_some x y e) ∙ bytes_same y)
+in_places (x ∷ xs) (suc q) y e = ap (λ b. bytes_eq x y || b) (in_places xs q y e) ∙ or_true (bytes_eq x y)
 
-place_by_id : (p i : ℕ) (xs : List Text) (a : Rule) → is_distinct xs ≡ true → arg_by_index (built_places i xs) p ≡ Some a → IsPlace i xs a
-place_by_id p i [] a d e = absurd (some_none a e)
-place_by_id p i (x ∷ xs) a d e = go (i == p) refl (place_by_id p (i + 1) xs a (both _ _ d).1)
+-- the position at a place is found by its name
+place_by_id : (p i q : ℕ) (xs : List Text) (y : Text) → p ≡ i + q → is_distinct xs ≡ true → slice_get xs q ≡ Some y
+    → arg_by_id (built_places i xs) y ≡ Some (built_place p y)
+place_by_id p i q [] y e d at = absurd (some_none y at)
+place_by_id p i zero (x ∷ xs) y e d at =
+    let same : x ≡ y = same_some x y at in
+    let first : i ≡ p = omega arith in
+    ap (λ b. cond b (Some (built_place i x)) (arg_by_id (built_places (i + 1) xs) y)) (ap (λ t. bytes_eq t y) same ∙ bytes_same y)
+    ∙ (λ j. Some (built_place (first j) (same j)))
+place_by_id p i (suc q) (x ∷ xs) y e d at =
+    ap (λ b. cond b (Some (built_place i x)) (arg_by_id (built_places (i + 1) xs) y)) (other (bytes_eq x y) refl)
+    ∙ place_by_id p (i + 1) q xs y (omega arith) (both _ _ d).1 at
   where
-    go : (b : Bool) → (i == p) ≡ b → (arg_by_index (built_places (i + 1) xs) p ≡ Some a → IsPlace (i + 1) xs a) → IsPlace i (x ∷ xs) a
-    go true is ih =
-        let same : built_place i x ≡ a = same_some _ _ (sym (ap (λ b. cond b (Some (built_place i x)) (arg_by_index (built_places (i + 1) xs) p)) is) ∙ e) in
-        subst (IsPlace i (x ∷ xs)) same (record {
-          by_id = ap (λ b. cond b (Some (built_place i x)) (arg_by_id (built_places (i + 1) xs) x)) (bytes_same x);
-          named = ap (λ b. b || is_in x xs) (bytes_same x);
-          one = place_takes_one i x;
-        })
+    other : (b : Bool) → bytes_eq x y ≡ b → b ≡ false
+    other false is = refl
+    other true is =
+        absurd (true≢false (sym (ap (λ t. is_in t xs) (same_text x y is) ∙ in_places xs q y at) ∙ is_true (is_in x xs) (both _ _ d).0))
+
+-- a position is found by its name
+place_named : (i : ℕ) (xs : List Text) (y : Text) → is_in y xs ≡ true → (k : ℕ) × (arg_by_id (built_places i xs) y ≡ Some (built_place k y))
+place_named i [] y e = absurd (true≢false (sym e))
+place_named i (x ∷ xs) y e = go (bytes_eq x y) refl (place_named (i + 1) xs y)
+  where
+    go : (b : Bool) → bytes_eq x y ≡ b → (is_in y xs ≡ true → (k : ℕ) × (arg_by_id (built_places (i + 1) xs) y ≡ Some (built_place k y)))
+        → (k : ℕ) × (arg_by_id (built_places i (x ∷ xs)) y ≡ Some (built_place k y))
+    go true is ih = (
+      i,
+      ap (λ b. cond b (Some (built_place i x)) (arg_by_id (built_places (i + 1) xs) y)) is ∙ ap (λ t. Some (built_place i t)) (same_text x y is),
+    )
     go false is ih =
-        let rest = ih (sym (ap (λ b. cond b (Some (built_place i x)) (arg_by_index (built_places (i + 1) xs) p)) is) ∙ e) in
-        let apart : bytes_eq x a.id ≡ false = differs (bytes_eq x a.id) refl rest.named in
-        record {
-          by_id = ap (λ b. cond b (Some (built_place i x)) (arg_by_id (built_places (i + 1) xs) a.id)) apart ∙ rest.by_id;
-          named = ap (λ b. b || is_in a.id xs) apart ∙ rest.named;
-          one = rest.one;
-        }
-      where
-        differs : (b : Bool) → bytes_eq x a.id ≡ b → is_in a.id xs ≡ true → b ≡ false
-        differs false is h = refl
-        differs true is h = absurd (true≢false (sym (ap (λ t. is_in t xs) (same_text x a.id is) ∙ h) ∙ is_true (is_in x xs) (both _ _ d).0))
+        let rest = ih (sym (ap (λ b. b || is_in y xs) is) ∙ e) in
+        (rest.0, ap (λ b. cond b (Some (built_place i x)) (arg_by_id (built_places (i + 1) xs) y)) is ∙ rest.1)
 
 -- a name of the list passes what each passes
 pub pick : (p : Text → Bool) (name : Text) (xs : List Text) → list_all p xs ≡ true → is_in name xs ≡ true → p name ≡ true
@@ -166,120 +171,112 @@ pick p name (x ∷ xs) all h = go (bytes_eq x name) refl (pick p name xs (both _
     go true is ih = ap p (sym (same_text x name is)) ∙ (both _ _ all).0
     go false is ih = ih (sym (ap (λ b. b || is_in name xs) is) ∙ h)
 
-module _ (n : Names) (apart : is_apart n ≡ true) where
-  abbrev f : Form
-  f = form_of n
-
+module _ (f : Form) (apart : is_apart f ≡ true) where
   abbrev c : List Rule
-  c = built_rules n
+  c = built_rules f
 
-  pub flag_is_no_option : (name : Text) → is_in name n.flags ≡ true → is_in name f.options ≡ false
-  flag_is_no_option name g = is_true _ (pick (λ name. not (is_in name f.options)) name n.flags (both _ _ apart).0 g)
+  pub flag_is_no_option : (name : Text) → is_in name f.flags ≡ true → is_in name f.options ≡ false
+  flag_is_no_option name g = is_true _ (pick (λ name. not (is_in name f.options)) name f.flags (both _ _ apart).0 g)
 
-  pub place_is_no_name : (name : Text) → is_in name n.places ≡ true → (is_in name f.options ≡ false) × (is_in name n.flags ≡ false)
+  pub option_is_no_flag : (name : Text) → is_in name f.options ≡ true → is_in name f.flags ≡ false
+  option_is_no_flag name o = go (is_in name f.flags) refl
+    where
+      go : (b : Bool) → is_in name f.flags ≡ b → is_in name f.flags ≡ false
+      go false g = g
+      go true g = absurd (true≢false (sym o ∙ flag_is_no_option name g))
+
+  pub place_is_no_name : (name : Text) → is_in name f.positions ≡ true → (is_in name f.options ≡ false) × (is_in name f.flags ≡ false)
   place_is_no_name name g =
-      let e = pick (λ place. not (is_in place f.options) && not (is_in place n.flags)) name n.places (both _ _ (both _ _ apart).1).0 g in
+      let e = pick (λ place. not (is_in place f.options) && not (is_in place f.flags)) name f.positions (both _ _ (both _ _ apart).1).0 g in
       (is_true _ (both _ _ e).0, is_true _ (both _ _ e).1)
 
-  last_apart : (is_distinct n.places && (not (is_in [] f.options) && not (is_in [] n.flags))) ≡ true
+  last_apart : (is_distinct f.positions && (not (is_in [] f.options) && not (is_in [] f.flags))) ≡ true
   last_apart = (both _ _ (both _ _ apart).1).1
 
-  pub places_distinct : is_distinct n.places ≡ true
+  places_distinct : is_distinct f.positions ≡ true
   places_distinct = (both _ _ last_apart).0
 
   pub no_empty_option : is_in [] f.options ≡ false
-  no_empty_option = is_true _ (both _ _ (both (is_distinct n.places) _ last_apart).1).0
+  no_empty_option = is_true _ (both _ _ (both (is_distinct f.positions) _ last_apart).1).0
 
-  pub no_empty_flag : is_in [] n.flags ≡ false
-  no_empty_flag = is_true _ (both (not (is_in [] f.options)) _ (both (is_distinct n.places) _ last_apart).1).1
+  pub no_empty_flag : is_in [] f.flags ≡ false
+  no_empty_flag = is_true _ (both (not (is_in [] f.options)) _ (both (is_distinct f.positions) _ last_apart).1).1
 
   -- ---- what is found
 
-  by_long : (b : Bool) (name x : Text) → (not (is_some (built_option b x).index) && has_long (built_option b x) name) ≡ bytes_eq x name
-  by_long b name x = or_false (bytes_eq x name)
+  by_long : (name x : Text) → (not (is_some (built_option x).index) && has_long (built_option x) name) ≡ bytes_eq x name
+  by_long name x = or_false (bytes_eq x name)
 
   by_long_flag : (name x : Text) → (not (is_some (built_flag x).index) && has_long (built_flag x) name) ≡ bytes_eq x name
   by_long_flag name x = or_false (bytes_eq x name)
 
-  options_are : (name : Text) → is_in name f.options ≡ (is_in name n.required || is_in name n.optional)
-  options_are name = list_any-append (λ m. bytes_eq m name) n.required n.optional
+  -- an option, a flag and a position by its name
+  pub option_named : (name : Text) → is_in name f.options ≡ true → arg_by_id c name ≡ Some (built_option name)
+  option_named name o = finds (λ a. bytes_eq a.id name) built_option name f.options _ (λ x. refl) o
 
-  -- the option of a name
-  pub option_found : (name : Text) → is_in name f.options ≡ true
-      → (b : Bool) × (arg_by_long c name ≡ Some (built_option b name)) × (arg_by_id c name ≡ Some (built_option b name))
-  option_found name o = go (is_in name n.required) (is_in name n.optional) refl refl (sym (options_are name) ∙ o)
-    where
-      go : (r o : Bool) → is_in name n.required ≡ r → is_in name n.optional ≡ o → (is_in name n.required || is_in name n.optional) ≡ true
-          → (b : Bool) × (arg_by_long c name ≡ Some (built_option b name)) × (arg_by_id c name ≡ Some (built_option b name))
-      go true o r e h = (
-        true,
-        finds (λ a. not (is_some a.index) && has_long a name) (built_option true) name n.required _ (by_long true name) r,
-        finds (λ a. bytes_eq a.id name) (built_option true) name n.required _ (λ x. refl) r,
-      )
-      go false true r e h = (
-        false,
-        skips (λ a. not (is_some a.index) && has_long a name) (built_option true) name n.required _ (by_long true name) r
-            ∙ finds (λ a. not (is_some a.index) && has_long a name) (built_option false) name n.optional _ (by_long false name) e,
-        skips (λ a. bytes_eq a.id name) (built_option true) name n.required _ (λ x. refl) r
-            ∙ finds (λ a. bytes_eq a.id name) (built_option false) name n.optional _ (λ x. refl) e,
-      )
-      go false false r e h = absurd (true≢false (sym h ∙ (λ i. r i || e i)))
+  pub flag_named : (name : Text) → is_in name f.flags ≡ true → arg_by_id c name ≡ Some (built_flag name)
+  flag_named name g =
+      skips (λ a. bytes_eq a.id name) built_option name f.options _ (λ x. refl) (flag_is_no_option name g)
+      ∙ finds (λ a. bytes_eq a.id name) built_flag name f.flags _ (λ x. refl) g
 
-  neither : (name : Text) → is_in name f.options ≡ false → (is_in name n.required ≡ false) × (is_in name n.optional ≡ false)
-  neither name o = go (is_in name n.required) (is_in name n.optional) refl refl (sym (options_are name) ∙ o)
-    where
-      go : (r o : Bool) → is_in name n.required ≡ r → is_in name n.optional ≡ o → (is_in name n.required || is_in name n.optional) ≡ false
-          → (is_in name n.required ≡ false) × (is_in name n.optional ≡ false)
-      go true o r e h = absurd (true≢false (sym (ap (λ b. b || is_in name n.optional) r) ∙ h))
-      go false o r e h = (r, sym (ap (λ b. b || is_in name n.optional) r) ∙ h)
+  to_places : (name : Text) → is_in name f.positions ≡ true → arg_by_id c name ≡ arg_by_id (built_places 1 f.positions) name
+  to_places name g =
+      skips (λ a. bytes_eq a.id name) built_option name f.options _ (λ x. refl) (place_is_no_name name g).0
+      ∙ skips (λ a. bytes_eq a.id name) built_flag name f.flags _ (λ x. refl) (place_is_no_name name g).1
 
-  skips_options : (name : Text) → is_in name f.options ≡ false → arg_by_long c name ≡ arg_by_long (map built_flag n.flags ++ built_places 1 n.places) name
-  skips_options name o =
-      skips (λ a. not (is_some a.index) && has_long a name) (built_option true) name n.required _ (by_long true name) (neither name o).0
-      ∙ skips (λ a. not (is_some a.index) && has_long a name) (built_option false) name n.optional _ (by_long false name) (neither name o).1
-
-  -- the flag of a name
-  pub flag_found : (name : Text) → is_in name n.flags ≡ true → arg_by_long c name ≡ Some (built_flag name)
-  flag_found name g =
-      skips_options name (flag_is_no_option name g)
-      ∙ finds (λ a. not (is_some a.index) && has_long a name) built_flag name n.flags _ (by_long_flag name) g
-
-  to_places : (p : ℕ) → arg_by_index c p ≡ arg_by_index (built_places 1 n.places) p
-  to_places p =
-      passes_over (λ a. option_map_or (λ k. k == p) a.index false) (built_option true) n.required _ (λ x. refl)
-      ∙ passes_over (λ a. option_map_or (λ k. k == p) a.index false) (built_option false) n.optional _ (λ x. refl)
-      ∙ passes_over (λ a. option_map_or (λ k. k == p) a.index false) built_flag n.flags _ (λ x. refl)
+  pub position_named : (name : Text) → is_in name f.positions ≡ true → (k : ℕ) × (arg_by_id c name ≡ Some (built_place k name))
+  position_named name g = let found = place_named 1 f.positions name g in (found.0, to_places name g ∙ found.1)
 
   -- the position at a place, which is counted from 1
-  pub place_found : (q : ℕ) → arg_by_index c (q + 1) ≡ option_map (built_place (q + 1)) (slice_get n.places q)
+  place_found : (q : ℕ) → arg_by_index c (q + 1) ≡ option_map (built_place (q + 1)) (slice_get f.positions q)
   place_found q =
-      to_places (q + 1) ∙ at_place (q + 1) 1 q n.places (omega arith)
+      passes_over (λ a. option_map_or (λ k. k == q + 1) a.index false) built_option f.options _ (λ x. refl)
+      ∙ passes_over (λ a. option_map_or (λ k. k == q + 1) a.index false) built_flag f.flags _ (λ x. refl)
+      ∙ at_place (q + 1) 1 q f.positions (omega arith)
+
+  place_at : (q : ℕ) (name : Text) → slice_get f.positions q ≡ Some name → q < 4 → IsPlace c (q + 1) name
+  place_at q name at few = record {
+    rule = built_place (q + 1) name;
+    found = place_found q ∙ ap (option_map (built_place (q + 1))) at;
+    named = named;
+    by_id = named;
+    one = place_takes_one (q + 1) name;
+    next = omega arith;
+  }
+    where
+      named : arg_by_id c name ≡ Some (built_place (q + 1) name)
+      named = to_places name (in_places f.positions q name at) ∙ place_by_id (q + 1) 1 q f.positions name (omega arith) places_distinct at
+
+  left_from : (q : ℕ) (names : List Text) → ((k : ℕ) → slice_get f.positions (k + q) ≡ slice_get names k) → q + length names ≤ 3
+      → AreLeft c (q + 1) names
+  left_from q [] same few = place_found q ∙ ap (option_map (built_place (q + 1))) ((let here : q ≡ 0 + q = omega arith in ap (slice_get f.positions) here) ∙ same 0)
+  left_from q (name ∷ names) same few = (
+    place_at q name ((let here : q ≡ 0 + q = omega arith in ap (slice_get f.positions) here) ∙ same 0) (omega arith),
+    left_from (q + 1) names (λ k. (let next : k + (q + 1) ≡ suc k + q = omega arith in ap (slice_get f.positions) next) ∙ same (suc k)) (omega arith),
+  )
+
+  -- all positions are left at the start
+  pub all_left : length f.positions ≤ 3 → AreLeft c 1 f.positions
+  all_left few = left_from 0 f.positions (λ k. (let same : k + 0 ≡ k = omega arith in ap (slice_get f.positions) same)) (omega arith)
 
   pub serves : Serves c f
   serves = record {
     option = λ name o. record {
-      rule = built_option (option_found name o).0 name;
-      found = (option_found name o).1;
-      one = option_takes_one (option_found name o).0 name;
-      by_id = (option_found name o).2;
+      rule = built_option name;
+      found = finds (λ a. not (is_some a.index) && has_long a name) built_option name f.options _ (by_long name) o;
+      named = option_named name o;
+      by_id = option_named name o;
+      one = option_takes_one name;
     };
-    flag = λ name g. record { rule = built_flag name; found = flag_found name g; none = refl };
-    apart = λ name o. no_flag name o (is_in name n.flags) refl;
-    other = λ name o g. skips_options name o
-        ∙ skips (λ a. not (is_some a.index) && has_long a name) built_flag name n.flags _ (by_long_flag name) g ∙ no_long name 1 n.places;
-    named_option = no_empty_option;
-    named_flag = no_empty_flag;
-    place = λ p a e.
-        let place = place_by_id p 1 n.places a places_distinct (sym (to_places p) ∙ e) in
-        let apart = place_is_no_name a.id place.named in (
-          place.one,
-          skips (λ x. bytes_eq x.id a.id) (built_option true) a.id n.required _ (λ x. refl) (neither a.id apart.0).0
-              ∙ skips (λ x. bytes_eq x.id a.id) (built_option false) a.id n.optional _ (λ x. refl) (neither a.id apart.0).1
-              ∙ skips (λ x. bytes_eq x.id a.id) built_flag a.id n.flags _ (λ x. refl) apart.1
-              ∙ place.by_id,
-        );
+    flag = λ name g. record {
+      rule = built_flag name;
+      found = skips (λ a. not (is_some a.index) && has_long a name) built_option name f.options _ (by_long name) (flag_is_no_option name g)
+          ∙ finds (λ a. not (is_some a.index) && has_long a name) built_flag name f.flags _ (by_long_flag name) g;
+      named = flag_named name g;
+      none = refl;
+    };
+    apart = option_is_no_flag;
+    other = λ name o g.
+        skips (λ a. not (is_some a.index) && has_long a name) built_option name f.options _ (by_long name) o
+        ∙ skips (λ a. not (is_some a.index) && has_long a name) built_flag name f.flags _ (by_long_flag name) g ∙ no_long name 1 f.positions;
   }
-    where
-      no_flag : (name : Text) → is_in name f.options ≡ true → (b : Bool) → is_in name n.flags ≡ b → is_in name n.flags ≡ false
-      no_flag name o false g = g
-      no_flag name o true g = absurd (true≢false (sym o ∙ flag_is_no_option name g))

@@ -4,14 +4,13 @@
 -- added     the rows that uses add one by one, or none
 -- Serves    the rules are those of a form
 use Rattle.std.proofs.Common.{◌≡◌, ◌+◌, ℕ, Bool, true, false, cond, List, [], ◌∷◌, Option, Some, None, min}
-use Rattle.std.specs.Str.{bytes_eq}
-use Rattle.std.specs.Prelude.{codes}
+use Rattle.std.specs.Prelude.{codes, option_and_then}
 use Rattle.clap.specs.Lexer.{usize_max}
 use Rattle.clap.specs.Walk.{Held, Row, Rule, Walk, arg_by_id, arg_by_index, arg_by_long, idle, is_multiple, most_values, option, settled, takes_several, takes_values, used, walked}
 use Rattle.clap.specs.Simple.{Shape}
 use Rattle.clap.specs.Kinds.{Kinds}
 use Rattle.clap.specs.Faults.{settle_fault, turn_fault, use_fault}
-use Rattle.cmd_words.specs.Line.{Form, Text, Use, is_in, needs}
+use Rattle.cmd_words.specs.Line.{Form, Text, Use, is_in}
 
 abbrev pub shape : List Rule → Shape
 shape c = record {
@@ -48,22 +47,17 @@ idle_at h p = record { held = h; waiting = idle; position = p; is_trailing = fal
 abbrev pub waits_at : Text → Held → ℕ → Walk
 waits_at id h p = record { held = h; waiting = option id; position = p; is_trailing = false; stopped = None }
 
--- the values of a use, its argument, and the position after it
+-- the values of a use
 abbrev pub values_for : Rule → Use → List Text
 values_for a u = cond (takes_values a) (u.value ∷ []) []
-
-abbrev pub rule_for : List Rule → ℕ → Use → Option Rule
-rule_for c p u = cond (bytes_eq u.name []) (arg_by_index c p) (arg_by_long c u.name)
-
-abbrev pub place_after : ℕ → Use → ℕ
-place_after p u = cond (bytes_eq u.name []) (min (p + 1) usize_max) p
 
 abbrev pub add_use : Rule → List Text → List Row → Option (List Row)
 add_use a vs rows = cond (clean (use_fault false a vs rows)) (Some (used a vs rows)) None
 
-unfoldable pub added : List Rule → ℕ → List Use → List Row → Option (List Row)
-added c p [] rows = Some rows
-added c p (u ∷ us) rows = needs (rule_for c p u) (λ a. needs (add_use a (values_for a u) rows) (added c (place_after p u) us))
+unfoldable pub added : List Rule → List Use → List Row → Option (List Row)
+added c [] rows = Some rows
+added c (u ∷ us) rows =
+    option_and_then (λ a. option_and_then (added c us) (add_use a (values_for a u) rows)) (arg_by_id c u.name)
 
 -- an option or a position has one value
 pub record TakesOne (a : Rule) : Type 0 where
@@ -77,13 +71,28 @@ pub record TakesOne (a : Rule) : Type 0 where
 pub record IsOption (c : List Rule) (name : Text) : Type 0 where
   pub rule : Rule
   pub found : arg_by_long c name ≡ Some rule
-  pub one : TakesOne rule
+  pub named : arg_by_id c name ≡ Some rule
   pub by_id : arg_by_id c rule.id ≡ Some rule
+  pub one : TakesOne rule
 
 pub record IsFlag (c : List Rule) (name : Text) : Type 0 where
   pub rule : Rule
   pub found : arg_by_long c name ≡ Some rule
+  pub named : arg_by_id c name ≡ Some rule
   pub none : takes_values rule ≡ false
+
+pub record IsPlace (c : List Rule) (p : ℕ) (name : Text) : Type 0 where
+  pub rule : Rule
+  pub found : arg_by_index c p ≡ Some rule
+  pub named : arg_by_id c name ≡ Some rule
+  pub by_id : arg_by_id c rule.id ≡ Some rule
+  pub one : TakesOne rule
+  pub next : min (p + 1) usize_max ≡ p + 1
+
+-- the positions that are left from the p-th rule on
+abbrev pub AreLeft : List Rule → ℕ → List Text → Type 0
+AreLeft c p [] = arg_by_index c p ≡ None
+AreLeft c p (name ∷ names) = IsPlace c p name × AreLeft c (p + 1) names
 
 -- the rules are those of the form
 pub record Serves (c : List Rule) (f : Form) : Type 0 where
@@ -91,6 +100,3 @@ pub record Serves (c : List Rule) (f : Form) : Type 0 where
   pub flag : (name : Text) → is_in name f.flags ≡ true → IsFlag c name
   pub apart : (name : Text) → is_in name f.options ≡ true → is_in name f.flags ≡ false
   pub other : (name : Text) → is_in name f.options ≡ false → is_in name f.flags ≡ false → arg_by_long c name ≡ None
-  pub named_option : is_in [] f.options ≡ false
-  pub named_flag : is_in [] f.flags ≡ false
-  pub place : (p : ℕ) (a : Rule) → arg_by_index c p ≡ Some a → TakesOne a × (arg_by_id c a.id ≡ Some a)

@@ -12,22 +12,14 @@ pub mod Steps
 pub mod Built
 -- when a parse fails, and what rows it has
 pub mod Outcome
--- the rows that uses add, each by itself
-pub mod Entries
--- the rows that uses add, against how often each name is used
-pub mod Counts
+-- the rows that uses add
+pub mod Rows
 -- what the words of a line are
 pub mod Lines
--- a parse that does not fail, and a line
-pub mod Allowed
--- what is found gives the values of the uses
-pub mod Reading
--- values, by what the getters read
+-- a parse that doesn't fail, and what is given
+pub mod Parses
+-- what is given, by what the getters read
 pub mod Getters
--- a line by the form that its first word names
-pub mod Named
--- the values of a line keep their limits
-pub mod Limits
 -- decimal digits
 pub mod Numbers
 -- hexadecimal digits

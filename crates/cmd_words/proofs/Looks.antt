@@ -5,7 +5,7 @@ use Rattle.std.specs.Prelude.{option_and_then, nat_lt}
 use Rattle.std.specs.Str.{bytes_eq}
 use Rattle.clap.specs.Lexer.{long_of, long_of_rest, short_of, short_of_rest, strip_byte}
 use Rattle.cmd_words.specs.Line.{Text, begins_with_hyphen}
-use Rattle.cmd_words.specs.Names.{is_long_or_plain}
+use Rattle.cmd_words.specs.Laws.{is_long_or_plain}
 
 abbrev pub hyphens : Text
 hyphens = 45 ∷ 45 ∷ []

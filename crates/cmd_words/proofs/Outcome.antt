@@ -1,5 +1,4 @@
--- When a parse of a form's command fails, and what rows it has where it does not: by what the walk
--- leaves.
+-- When a parse of a form's command fails, and what rows it has if it doesn't: by what the walk leaves.
 use Rattle.std.proofs.Common.{◌≡◌, ◌∙◌, ◌≤◌, ◌&&◌, ◌||◌, ℕ, Bool, true, false, cond, not, ◌+◌, sym, refl, ap, true≢false, List, [], ◌∷◌, ◌++◌, map, length, Some, None}
 use Rattle.std.specs.Option.{is_some}
 use Rattle.std.specs.List.{count_by, fold, list_all, list_any}
@@ -12,8 +11,8 @@ use Rattle.clap.specs.Kinds.{Kinds, or_else}
 use Rattle.clap.specs.Takes.{is_given}
 use Rattle.clap.specs.Faults.{built_fault, check_fault, given_default_fault, is_free_app, default_fault, defaults_fault, fault_of, is_simple_and_free, level_fault, settle_fault, turn_fault, walk_fault}
 use Rattle.clap.proofs.FaultLemmas.{leaf_fault}
-use Rattle.cmd_words.specs.Line.{Text}
-use Rattle.cmd_words.specs.Names.{Names, app_of, flag_rule, option_rule, place_rule, rules_of}
+use Rattle.cmd_words.specs.Line.{Form, Text}
+use Rattle.cmd_words.specs.Laws.{app_of, flag_rule, option_rule, place_rule, rules_of}
 use Rattle.cmd_words.proofs.Basics.{cond_same, is_true, or_true, same_some, some_none}
 use Rattle.cmd_words.proofs.Left.{clean, idle_at, left, shape}
 use Rattle.cmd_words.proofs.Built.{built_flag, built_option, built_place, built_places, built_rules, rules_filled}
@@ -94,22 +93,19 @@ all_places : (p : Rule → Bool) (i : ℕ) (xs : List Text) → ((i : ℕ) (x : 
 all_places p i [] each = refl
 all_places p i (x ∷ xs) each = ap (λ b. b && list_all p (built_places (i + 1) xs)) (each i x) ∙ all_places p (i + 1) xs each
 
-each_built : (p : Rule → Bool) (n : Names) → ((b : Bool) (x : Text) → p (built_option b x) ≡ true) → ((x : Text) → p (built_flag x) ≡ true)
-    → ((i : ℕ) (x : Text) → p (built_place i x) ≡ true) → list_all p (built_rules n) ≡ true
-each_built p n option flag place =
-    all_named p (built_option true) n.required _ (option true)
-    (all_named p (built_option false) n.optional _ (option false)
-    (all_named p built_flag n.flags _ flag (all_places p 1 n.places place)))
+each_built : (p : Rule → Bool) (f : Form) → ((x : Text) → p (built_option x) ≡ true) → ((x : Text) → p (built_flag x) ≡ true)
+    → ((i : ℕ) (x : Text) → p (built_place i x) ≡ true) → list_all p (built_rules f) ≡ true
+each_built p f option flag place =
+    all_named p built_option f.options _ option (all_named p built_flag f.flags _ flag (all_places p 1 f.positions place))
 
 places_simple : (xs : List Text) → list_all (λ (a : Rule). a.is_simple) (map place_rule xs) ≡ true
 places_simple [] = refl
 places_simple (x ∷ xs) = places_simple xs
 
-rules_simple : (n : Names) → list_all (λ (a : Rule). a.is_simple) (rules_of n) ≡ true
-rules_simple n =
-    all_named (λ a. a.is_simple) (option_rule true) n.required _ (λ x. refl)
-    (all_named (λ a. a.is_simple) (option_rule false) n.optional _ (λ x. refl)
-    (all_named (λ a. a.is_simple) flag_rule n.flags _ (λ x. refl) (places_simple n.places)))
+rules_simple : (f : Form) → list_all (λ (a : Rule). a.is_simple) (rules_of f) ≡ true
+rules_simple f =
+    all_named (λ a. a.is_simple) option_rule f.options _ (λ x. refl)
+    (all_named (λ a. a.is_simple) flag_rule f.flags _ (λ x. refl) (places_simple f.positions))
 
 none_any : (p : Rule → Bool) (xs : List Rule) → list_all (λ a. not (p a)) xs ≡ true → list_any p xs ≡ false
 none_any p [] e = refl
@@ -123,8 +119,8 @@ is_missing rows a = a.required && not (is_given a.id rows)
 abbrev pub start : Walk
 start = idle_at nothing_held 1
 
-built_is : (n : Names) → length n.places ≤ 3 → built (app_of n) ≡ record { top = shape (built_rules n); subs = [] }
-built_is n few = ap (λ rs. record { top = shape rs; subs = [] }) (rules_filled n few)
+built_is : (f : Form) → length f.positions ≤ 3 → built (app_of f) ≡ record { top = shape (built_rules f); subs = [] }
+built_is f few = ap (λ rs. record { top = shape rs; subs = [] }) (rules_filled f few)
 
 level_is : (c : List Rule) (words : List Text) → list_all has_no_default c ≡ true
     → level_fault (shape c) [] nothing_held words false []
@@ -135,55 +131,53 @@ level_is c words none =
     λ i. or_else (walk_fault (shape c) [] start words) (or_else (settle_fault c false (end_of c start words))
     (or_else (no_faults rows c none i) (check_fault (shape c) (no_rows rows c none i) false)))
 
-each_no_default : (n : Names) → list_all has_no_default (built_rules n) ≡ true
-each_no_default n = each_built has_no_default n (λ b x. refl) (λ x. refl) (λ i x. refl)
+each_no_default : (f : Form) → list_all has_no_default (built_rules f) ≡ true
+each_no_default f = each_built has_no_default f (λ x. refl) (λ x. refl) (λ i x. refl)
 
-fault_is : (n : Names) (words : List Text) → length n.places ≤ 3
-    → fault_of (app_of n) words ≡ level_fault (shape (built_rules n)) [] nothing_held words false []
-fault_is n words few =
-    ap (λ a. built_fault a nothing_held words) (built_is n few)
-    ∙ leaf_fault (record { top = shape (built_rules n); subs = [] }) nothing_held words refl
+fault_is : (f : Form) (words : List Text) → length f.positions ≤ 3
+    → fault_of (app_of f) words ≡ level_fault (shape (built_rules f)) [] nothing_held words false []
+fault_is f words few =
+    ap (λ a. built_fault a nothing_held words) (built_is f few)
+    ∙ leaf_fault (record { top = shape (built_rules f); subs = [] }) nothing_held words refl
 
-matches_are : (n : Names) (words : List Text) → length n.places ≤ 3
-    → matches_of (app_of n) words ≡ (settled (built_rules n) (end_of (built_rules n) start words)).rows
-matches_are n words few =
-    ap (λ (a : App). rows_after a.top.rules (names_of a) words) (built_is n few)
-    ∙ no_rows _ (built_rules n) (each_no_default n)
+matches_are : (f : Form) (words : List Text) → length f.positions ≤ 3
+    → matches_of (app_of f) words ≡ (settled (built_rules f) (end_of (built_rules f) start words)).rows
+matches_are f words few =
+    ap (λ (a : App). rows_after a.top.rules (names_of a) words) (built_is f few)
+    ∙ no_rows _ (built_rules f) (each_no_default f)
 
 -- the command is one of which the definitions of the parser speak
-pub simple_and_free : (n : Names) → length n.places ≤ 3 → is_simple_and_free (app_of n) ≡ true
-simple_and_free n few =
-    let c = built_rules n in
-    let simple = each_built (λ a. a.is_simple) n (λ b x. refl) (λ x. refl) (λ i x. refl) in
-    let free = each_built (λ a. a.is_free) n (λ b x. refl) (λ x. refl) (λ i x. refl) in
+pub simple_and_free : (f : Form) → length f.positions ≤ 3 → is_simple_and_free (app_of f) ≡ true
+simple_and_free f few =
+    let c = built_rules f in
+    let simple = each_built (λ a. a.is_simple) f (λ x. refl) (λ x. refl) (λ i x. refl) in
+    let free = each_built (λ a. a.is_free) f (λ x. refl) (λ x. refl) (λ i x. refl) in
     let in_order : list_any (is_early_multiple (count_by (λ (a : Rule). is_some a.index) c)) c ≡ false =
-    none_any _ c (each_built (λ a. not (is_early_multiple (count_by (λ (a : Rule). is_some a.index) c) a)) n (λ b x. refl) (λ x. refl) (λ i x. refl)) in
-    ap (λ a. (is_buildable (app_of n) && (is_ready a.top && list_all is_ready_leaf a.subs)) && is_free_app a) (built_is n few)
-    ∙ (λ i. ((rules_simple n i && true) && ((simple i && not (in_order i)) && true)) && (free i && true))
+    none_any _ c (each_built (λ a. not (is_early_multiple (count_by (λ (a : Rule). is_some a.index) c) a)) f (λ x. refl) (λ x. refl) (λ i x. refl)) in
+    ap (λ a. (is_buildable (app_of f) && (is_ready a.top && list_all is_ready_leaf a.subs)) && is_free_app a) (built_is f few)
+    ∙ (λ i. ((rules_simple f i && true) && ((simple i && not (in_order i)) && true)) && (free i && true))
 
-missing_kinds : (b : Bool) → cond b (kind.MissingRequiredArgument ∷ []) [] ≡ [] → b ≡ false
-missing_kinds true e = absurd (true≢false (sym (ap clean e)))
-missing_kinds false e = refl
+-- nothing that the rules ask for is missing
+none_missing : (f : Form) (rows : List Row) → check_fault (shape (built_rules f)) rows false ≡ []
+none_missing f rows =
+    ap (λ b. cond b (kind.MissingRequiredArgument ∷ []) [])
+    (none_any (is_missing rows) (built_rules f) (each_built (λ a. not (is_missing rows a)) f (λ x. refl) (λ x. refl) (λ i x. refl)))
 
--- a parse that does not fail
-pub taken : (n : Names) (words : List Text) → length n.places ≤ 3 → fault_of (app_of n) words ≡ []
-    → (left (built_rules n) start words ≡ Some (matches_of (app_of n) words))
-    × (list_any (is_missing (matches_of (app_of n) words)) (built_rules n) ≡ false)
-taken n words few e =
-    let c = built_rules n in
-    let same = matches_are n words few in
-    let steps = or_both (walk_fault (shape c) [] start words) _ (sym (fault_is n words few ∙ level_is c words (each_no_default n)) ∙ e) in
-    let ends = or_both (settle_fault c false (end_of c start words)) _ steps.1 in (
-      passes_left c start words steps.0 ends.0 ∙ ap Some (sym same),
-      ap (λ rows. list_any (is_missing rows) c) same ∙ missing_kinds _ ends.1,
-    )
+-- a parse that doesn't fail
+pub taken : (f : Form) (words : List Text) → length f.positions ≤ 3 → fault_of (app_of f) words ≡ []
+    → left (built_rules f) start words ≡ Some (matches_of (app_of f) words)
+taken f words few e =
+    let c = built_rules f in
+    let steps = or_both (walk_fault (shape c) [] start words) _ (sym (fault_is f words few ∙ level_is c words (each_no_default f)) ∙ e) in
+    let ends = or_both (settle_fault c false (end_of c start words)) _ steps.1 in
+    passes_left c start words steps.0 ends.0 ∙ ap Some (sym (matches_are f words few))
 
--- where the walk passes and nothing is missing, a parse does not fail
-pub takes : (n : Names) (words : List Text) (rows : List Row) → length n.places ≤ 3 → left (built_rules n) start words ≡ Some rows
-    → list_any (is_missing rows) (built_rules n) ≡ false → fault_of (app_of n) words ≡ []
-takes n words rows few e none =
-    let c = built_rules n in
+-- if the walk passes, a parse doesn't fail
+pub takes : (f : Form) (words : List Text) (rows : List Row) → length f.positions ≤ 3 → left (built_rules f) start words ≡ Some rows
+    → fault_of (app_of f) words ≡ []
+takes f words rows few e =
+    let c = built_rules f in
     let passes = left_passes c start words rows e in
-    fault_is n words few ∙ level_is c words (each_no_default n)
+    fault_is f words few ∙ level_is c words (each_no_default f)
     ∙ (λ i. or_else (passes.walk i) (or_else (passes.settles i) (check_fault (shape c) (passes.rows_are i) false)))
-    ∙ ap (λ b. cond b (kind.MissingRequiredArgument ∷ []) []) none
+    ∙ none_missing f rows

@@ -5,7 +5,7 @@ use Rattle.std.specs.Borrow.{Bor}
 use Rattle.std.proofs.lemmas.List.{map-append, take-map, take_more}
 use Rattle.clap.specs.Walk.{Rule, Text, texts}
 use Rattle.clap.specs.Simple.{App, with_rule}
-use Rattle.cmd_words.specs.Names.{with_rules}
+use Rattle.cmd_words.specs.Laws.{with_rules}
 
 -- no rule more
 pub rules_none : (a : App) → a ≡ with_rules a []
@@ -26,14 +26,7 @@ rules_more f a b d r names i name lt before added is =
     ∙ ap (map f) (map-append (λ (s : Bor Text). s.now) (take i names) (slice_index_or names i name ∷ []))
     ∙ map-append f (texts (take i names)) ((slice_index_or names i name).now ∷ [])))
 
--- four lists of rules in turn
-pub rules_in_turn : (a : App) (ps qs rs ss : List Rule)
-    → with_rules (with_rules (with_rules (with_rules a ps) qs) rs) ss ≡ with_rules a (ps ++ (qs ++ (rs ++ ss)))
-rules_in_turn a ps qs rs ss =
-    rules_append (with_rules (with_rules a ps) qs) rs ss
-    ∙ rules_append (with_rules a ps) qs (rs ++ ss)
-    ∙ rules_append a ps (qs ++ (rs ++ ss))
-
--- the texts of the first n references
-pub texts_taken : (n : ℕ) (ps : List (Bor Text)) (qs : List Text) → texts ps ≡ qs → texts (take n ps) ≡ take n qs
-texts_taken n ps qs e = sym (take-map (λ (s : Bor Text). s.now) n ps) ∙ ap (take n) e
+-- three lists of rules in turn
+pub rules_in_turn : (a : App) (ps qs rs : List Rule)
+    → with_rules (with_rules (with_rules a ps) qs) rs ≡ with_rules a (ps ++ (qs ++ rs))
+rules_in_turn a ps qs rs = rules_append (with_rules a ps) qs rs ∙ rules_append a ps (qs ++ rs)

@@ -1,18 +1,18 @@
--- The command lines. A word is the list of its bytes, and so is a value.
+-- The command lines. An argument of a line is the list of its bytes, and so is a value.
 --
--- A line is a command's name and then its options and positions in any order, read from left to
--- right. An option is written `--name value` or `--name=value`, and a flag `--name`. A value that
--- begins with a hyphen has to stand behind `=`. All else that begins with a hyphen makes no line,
--- and what does not is a position.
+-- A line is a command's name, and then positions, options and flags in any order. An option is
+-- written `--name value` or `--name=value`, and a flag `--name`. A value that begins with a hyphen
+-- has to follow `=`. Everything else that begins with a hyphen is an error, and what doesn't is the
+-- next position. Nothing may be given twice. A position or an option that has no default and isn't
+-- given leaves the command without a value, and so makes no line.
 --
--- making, opening n, ..  what options, flags and positions a command has
--- uses f words           what the words use: each option with its value, each flag, each position
--- is_allowed f us        no option twice, none missing, and as many positions as there are
--- made_of, info_of, ..   the command of these uses, with the values that its options name
--- line words             the command of a whole line, or none
-use Rattle.std.specs.Prelude.{ℕ, ◌+◌, ◌-◌, ◌*◌, ◌^◌, ◌==◌, ◌&&◌, nat_lt, nat_le, not, Bool, true, false, if◌then◌else◌, List, [], ◌∷◌, codes, length, map, drop, filter, find, Option, Some, None, is_some, option_map, slice_index_or}
+-- commands      the table: what each command may have, and what it makes of it
+-- read f words  what is given: each position, option and flag with its value
+-- line words    the command of a whole line with its values, or none
+use Rattle.std.specs.Prelude.{ℕ, ◌+◌, ◌-◌, ◌*◌, ◌^◌, ◌==◌, ◌&&◌, nat_lt, nat_le, not, Bool, true, false, if◌then◌else◌, List, [], ◌∷◌, codes, length, map, drop, find, Option, Some, None, is_some, option_map, option_and_then}
 use Rattle.std.specs.Char.{is_ascii_digit, digit_value}
 use Rattle.std.specs.List.{list_all, list_any, before_first, after_first}
+use Rattle.std.specs.Option.{option_map_or}
 use Rattle.std.specs.Str.{bytes_eq}
 use Rattle.std.specs.Str.Parse.{digits_value}
 use Rattle.kdf_hmac.specs.declared.prf.Prf.{Prf}
@@ -32,63 +32,15 @@ Text = List ℕ
 abbrev pub is_in : Text → List Text → Bool
 is_in name names = list_any (λ n. bytes_eq n name) names
 
--- ---- what a command may have
+-- ---- what is given
 
+-- what a command may have: positions in their order, options, which have a value, and flags
 pub record Form : Type 0 where
-  -- the options, which have a value
+  pub positions : List Text
   pub options : List Text
-  -- the flags, which have none
   pub flags : List Text
-  -- those options that have to be there
-  pub required : List Text
-  pub positions : ℕ
 
-abbrev pub making : Form
-making = record {
-  options = codes "size" ∷ codes "password" ∷ codes "random" ∷ codes "pim" ∷ codes "prf" ∷ codes "algorithm" ∷ [];
-  flags = [];
-  required = codes "size" ∷ codes "password" ∷ codes "random" ∷ [];
-  positions = 1;
-}
-
-abbrev pub opening : ℕ → Form
-opening positions = record {
-  options = codes "password" ∷ codes "pim" ∷ codes "kind" ∷ [];
-  flags = codes "backup" ∷ [];
-  required = codes "password" ∷ [];
-  positions = positions;
-}
-
-abbrev pub changing : Form
-changing = record {
-  options = codes "password" ∷ codes "new" ∷ codes "random" ∷ codes "pim" ∷ codes "new-pim" ∷ codes "new-prf" ∷ codes "kind" ∷ [];
-  flags = codes "backup" ∷ [];
-  required = codes "password" ∷ codes "new" ∷ codes "random" ∷ [];
-  positions = 1;
-}
-
-abbrev pub restoring : Form
-restoring = record {
-  options = codes "password" ∷ codes "random" ∷ codes "pim" ∷ codes "kind" ∷ [];
-  flags = [];
-  required = codes "password" ∷ codes "random" ∷ [];
-  positions = 1;
-}
-
-abbrev pub serving : Form
-serving = record {
-  options = codes "password" ∷ codes "pim" ∷ codes "kind" ∷ codes "protect" ∷ codes "protect-pim" ∷ codes "helpers" ∷ codes "workers" ∷ [];
-  flags = codes "backup" ∷ [];
-  required = codes "password" ∷ [];
-  positions = 1;
-}
-
-abbrev pub drilling : Form
-drilling = record { options = []; flags = []; required = []; positions = 1 }
-
--- ---- from words to uses
-
--- an option or a flag by its name, and a position by the empty name, which no option has
+-- a position, an option or a flag that is given
 pub record Use : Type 0 where
   pub name : Text
   pub value : Text
@@ -104,7 +56,7 @@ begins_with_hyphens (c ∷ cs) = c == 45 && begins_with_hyphen cs
 abbrev pub is_equals : ℕ → Bool
 is_equals c = c == 61
 
--- what stands before the first `=` of a word that begins with two hyphens, and what stands after it
+-- behind two hyphens: what is before the first `=`, and what is after it
 abbrev pub name_in : Text → Text
 name_in word = before_first is_equals (drop 2 word)
 
@@ -114,64 +66,65 @@ has_equals word = list_any is_equals (drop 2 word)
 abbrev pub value_in : Text → Text
 value_in word = after_first is_equals (drop 2 word)
 
--- the word is an option that has its value in the next word
+-- an option whose value is the next argument
 abbrev pub awaits_value : Form → Text → Bool
 awaits_value f word = begins_with_hyphens word && not (has_equals word) && is_in (name_in word) f.options
 
--- what a word uses by itself, or none where it may not stand so
-abbrev pub use_of : Form → Text → Option Use
-use_of f word =
-    if not (begins_with_hyphen word) then Some (record { name = []; value = word })
+-- that option with its value, which may not begin with a hyphen
+abbrev pub use_with : Text → Text → Option Use
+use_with word value =
+    if begins_with_hyphen value then None else Some (record { name = name_in word; value = value })
+
+-- the next of the positions that are left
+abbrev pub next_position : List Text → Text → Option Use
+next_position [] word = None
+next_position (place ∷ places) word = Some (record { name = place; value = word })
+
+abbrev pub places_after : List Text → Text → List Text
+places_after places word = if begins_with_hyphen word then places else drop 1 places
+
+-- what any other argument gives
+abbrev pub use_of : Form → List Text → Text → Option Use
+use_of f places word =
+    if not (begins_with_hyphen word) then next_position places word
     else (if begins_with_hyphens word && has_equals word && is_in (name_in word) f.options
     then Some (record { name = name_in word; value = value_in word })
     else (if begins_with_hyphens word && not (has_equals word) && is_in (name_in word) f.flags
     then Some (record { name = name_in word; value = [] })
     else None))
 
--- an option with its value in the next word, which may not begin with a hyphen
-abbrev pub use_with : Text → Text → Option Use
-use_with word value =
-    if begins_with_hyphen value then None else Some (record { name = name_in word; value = value })
-
 abbrev pub followed_by : Option Use → Option (List Use) → Option (List Use)
 followed_by None us = None
 followed_by (Some u) None = None
 followed_by (Some u) (Some us) = Some (u ∷ us)
 
-unfoldable pub uses : Form → List Text → Option (List Use)
-uses f [] = Some []
-uses f (word ∷ []) = followed_by (use_of f word) (Some [])
-uses f (word ∷ next ∷ rest) =
-    if awaits_value f word then followed_by (use_with word next) (uses f rest)
-    else followed_by (use_of f word) (uses f (next ∷ rest))
+-- what the arguments give, with these positions left
+unfoldable pub uses : Form → List Text → List Text → Option (List Use)
+uses f places [] = Some []
+uses f places (word ∷ []) = followed_by (use_of f places word) (Some [])
+uses f places (word ∷ next ∷ rest) =
+    if awaits_value f word then followed_by (use_with word next) (uses f places rest)
+    else followed_by (use_of f places word) (uses f (places_after places word) (next ∷ rest))
 
--- ---- what has to be there, and how often
+abbrev pub is_distinct : List Text → Bool
+is_distinct [] = true
+is_distinct (name ∷ names) = not (is_in name names) && is_distinct names
 
-abbrev pub is_use_of : Text → Use → Bool
-is_use_of name u = bytes_eq u.name name
+abbrev pub names_of : List Use → List Text
+names_of us = map (λ (u : Use). u.name) us
 
-abbrev pub count_of : Text → List Use → ℕ
-count_of name us = length (filter (is_use_of name) us)
+-- nothing is given twice
+abbrev pub once : List Use → Option (List Use)
+once us = if is_distinct (names_of us) then Some us else None
 
-abbrev pub is_allowed : Form → List Use → Bool
-is_allowed f us =
-    list_all (λ name. nat_le (count_of name us) 1) f.options
-    && list_all (λ name. nat_le (count_of name us) 1) f.flags
-    && list_all (λ name. nat_le 1 (count_of name us)) f.required
-    && count_of [] us == f.positions
+unfoldable pub read : Form → List Text → Option (List Use)
+read f words = option_and_then once (uses f f.positions words)
+
+-- what is given under a name
+unfoldable pub value_of : Text → List Use → Option Text
+value_of name us = option_map (λ (u : Use). u.value) (find (λ u. bytes_eq u.name name) us)
 
 -- ---- values
-
--- the value of an option, or none where it is not there
-unfoldable pub value_of : Text → List Use → Option Text
-value_of name us = option_map (λ (u : Use). u.value) (find (is_use_of name) us)
-
--- the i-th position
-unfoldable pub position : ℕ → List Use → Text
-position i us = slice_index_or (map (λ (u : Use). u.value) (filter (is_use_of []) us)) i []
-
-unfoldable pub is_given : Text → List Use → Bool
-is_given name us = is_some (value_of name us)
 
 -- 1 to 20 decimal digits of a number below 2^64
 unfoldable pub number_in : Text → Option ℕ
@@ -181,18 +134,14 @@ number_in text =
     then Some (digits_value 10 text) else None
 
 -- a number from `least` to `most`
-abbrev pub within : ℕ → ℕ → Option ℕ → Option ℕ
-within least most None = None
-within least most (Some n) = if nat_le least n && nat_le n most then Some n else None
-
 abbrev pub number_within : ℕ → ℕ → Text → Option ℕ
-number_within least most text = within least most (number_in text)
+number_within least most text =
+    option_and_then (λ n. if nat_le least n && nat_le n most then Some n else None) (number_in text)
 
 -- a password has 1 to 128 bytes
 abbrev pub password_in : Text → Option Text
 password_in text = if nat_le 1 (length text) && nat_le (length text) 128 then Some text else None
 
--- a PIM is at most 2,147,468
 abbrev pub pim_in : Text → Option ℕ
 pim_in text = number_within 0 2147468 text
 
@@ -207,17 +156,100 @@ abbrev pub random_in : Text → Option (List ℕ)
 random_in text =
     if length text == 64 && list_all (λ c. nat_lt (digit_value c) 16) text then Some (bytes_in text) else None
 
--- which headers are tried
 abbrev pub choice_in : Text → Option Choice
 choice_in text =
     if bytes_eq text (codes "any") then Some choice.Any
     else (if bytes_eq text (codes "standard") then Some choice.Standard
     else (if bytes_eq text (codes "hidden") then Some choice.Hidden else None))
 
+-- which headers are tried, at the backup headers or not
 abbrev pub kind_of : Choice → Bool → Kind
 kind_of choice.Any backup = if backup then AnyBackup else Any
 kind_of choice.Standard backup = if backup then StandardBackup else StandardOnly
 kind_of choice.Hidden backup = if backup then HiddenBackup else HiddenOnly
+
+-- ---- positions, options and flags: what each is, and its default
+
+abbrev pub or_default : {A : Type 0} → A → (Text → Option A) → Option Text → Option A
+or_default usual reading text = option_map_or reading text (Some usual)
+
+-- with no default, and not needed
+abbrev pub perhaps : {A : Type 0} → (Text → Option A) → Option Text → Option (Option A)
+perhaps reading text = option_map_or (λ t. option_map (λ a. Some a) (reading t)) text (Some None)
+
+abbrev pub path_in : List Use → Option Text
+path_in us = value_of (codes "PATH") us
+
+-- FIRST, COUNT and --size
+abbrev pub number_of : Text → List Use → Option ℕ
+number_of name us = option_and_then number_in (value_of name us)
+
+abbrev pub drill_number_of : List Use → Option ℕ
+drill_number_of us = option_and_then (number_within 0 (2 ^ 32 - 1)) (value_of (codes "N") us)
+
+-- --password and --new
+abbrev pub password_of : Text → List Use → Option Text
+password_of name us = option_and_then password_in (value_of name us)
+
+abbrev pub random_of : List Use → Option (List ℕ)
+random_of us = option_and_then random_in (value_of (codes "random") us)
+
+-- --pim and --new-pim
+abbrev pub pim_of : Text → List Use → Option ℕ
+pim_of name us = or_default 0 pim_in (value_of name us)
+
+abbrev pub prf_of : List Use → Option Prf
+prf_of us = or_default Sha512 prf_named (value_of (codes "prf") us)
+
+abbrev pub new_prf_of : List Use → Option (Option Prf)
+new_prf_of us = perhaps prf_named (value_of (codes "new-prf") us)
+
+abbrev pub algorithm_of : List Use → Option Algorithm
+algorithm_of us = or_default Aes named (value_of (codes "algorithm") us)
+
+abbrev pub choice_of : List Use → Option Choice
+choice_of us = or_default choice.Any choice_in (value_of (codes "kind") us)
+
+abbrev pub is_backup : List Use → Bool
+is_backup us = is_some (value_of (codes "backup") us)
+
+abbrev pub helpers_of : List Use → Option ℕ
+helpers_of us = or_default 2 (number_within 0 8) (value_of (codes "helpers") us)
+
+abbrev pub workers_of : List Use → Option ℕ
+workers_of us = or_default 4 (number_within 1 8) (value_of (codes "workers") us)
+
+-- which headers are tried; `restore` always opens a backup
+abbrev pub tried : List Use → Option Kind
+tried us = option_map (λ c. kind_of c (is_backup us)) (choice_of us)
+
+abbrev pub tried_backup : List Use → Option Kind
+tried_backup us = option_map (λ c. kind_of c true) (choice_of us)
+
+-- the protecting password with its PIM, which needs the password
+abbrev pub protected : Option Text → Option ℕ → Option (Option (Text × ℕ))
+protected None None = Some None
+protected None (Some pim) = None
+protected (Some password) None = Some (Some (password, 0))
+protected (Some password) (Some pim) = Some (Some (password, pim))
+
+abbrev pub protect_of : List Use → Option (Option (Text × ℕ))
+protect_of us =
+    option_and_then (λ password. option_and_then (protected password)
+    (perhaps pim_in (value_of (codes "protect-pim") us)))
+    (perhaps password_in (value_of (codes "protect") us))
+
+-- a protecting password opens the hidden volume, so the password opens the standard one
+abbrev pub served : Choice → Option (Text × ℕ) → Option Choice
+served which None = Some which
+served choice.Any (Some protect) = Some choice.Standard
+served choice.Standard (Some protect) = Some choice.Standard
+served choice.Hidden (Some protect) = None
+
+abbrev pub tried_by_serve : List Use → Option Kind
+tried_by_serve us =
+    option_and_then (λ protect. option_and_then (λ which.
+    option_map (λ c. kind_of c (is_backup us)) (served which protect)) (choice_of us)) (protect_of us)
 
 -- ---- commands
 
@@ -237,123 +269,89 @@ pub data Line : Type 0 where
   serve : Text → Text → ℕ → Kind → Option (Text × ℕ) → ℕ → ℕ → Line
   drill : ℕ → Line
 
--- a value that has to be there and be one; what a missing option stands for
-abbrev pub needs : {A B : Type 0} → Option A → (A → Option B) → Option B
-needs None next = None
-needs (Some a) next = next a
-
-abbrev pub wanted : {A : Type 0} → (Text → Option A) → Option Text → Option A
-wanted reading None = None
-wanted reading (Some text) = reading text
-
-abbrev pub or_default : {A : Type 0} → A → (Text → Option A) → Option Text → Option A
-or_default usual reading None = Some usual
-or_default usual reading (Some text) = reading text
-
--- an option that may be missing
-abbrev pub perhaps : {A : Type 0} → (Text → Option A) → Option Text → Option (Option A)
-perhaps reading None = Some None
-perhaps reading (Some text) = option_map (λ a. Some a) (reading text)
+-- one value more of a command, if it is there
+infixl 10 ◌⊗◌
+abbrev pub ◌⊗◌ : {A B : Type 0} → Option (A → B) → Option A → Option B
+None ⊗ a = None
+Some f ⊗ None = None
+Some f ⊗ Some a = Some (f a)
 
 abbrev pub made_of : (Text → ℕ → Text → List ℕ → ℕ → Prf → Algorithm → Line) → List Use → Option Line
 made_of make us =
-    needs (wanted number_in (value_of (codes "size") us)) (λ size.
-    needs (wanted password_in (value_of (codes "password") us)) (λ password.
-    needs (wanted random_in (value_of (codes "random") us)) (λ random.
-    needs (or_default 0 pim_in (value_of (codes "pim") us)) (λ pim.
-    needs (or_default Sha512 prf_named (value_of (codes "prf") us)) (λ prf.
-    needs (or_default Aes named (value_of (codes "algorithm") us)) (λ algorithm.
-    Some (make (position 0 us) size password random pim prf algorithm)))))))
+    Some make ⊗ path_in us ⊗ number_of (codes "size") us ⊗ password_of (codes "password") us ⊗ random_of us
+    ⊗ pim_of (codes "pim") us ⊗ prf_of us ⊗ algorithm_of us
 
 abbrev pub info_of : List Use → Option Line
 info_of us =
-    needs (wanted password_in (value_of (codes "password") us)) (λ password.
-    needs (or_default 0 pim_in (value_of (codes "pim") us)) (λ pim.
-    needs (or_default choice.Any choice_in (value_of (codes "kind") us)) (λ which.
-    Some (info (position 0 us) password pim (kind_of which (is_given (codes "backup") us))))))
+    Some (λ path password pim kind. info path password pim kind) ⊗ path_in us ⊗ password_of (codes "password") us
+    ⊗ pim_of (codes "pim") us ⊗ tried us
 
 abbrev pub cat_of : List Use → Option Line
 cat_of us =
-    needs (number_in (position 1 us)) (λ first.
-    needs (number_in (position 2 us)) (λ count.
-    needs (wanted password_in (value_of (codes "password") us)) (λ password.
-    needs (or_default 0 pim_in (value_of (codes "pim") us)) (λ pim.
-    needs (or_default choice.Any choice_in (value_of (codes "kind") us)) (λ which.
-    Some (cat (position 0 us) first count password pim (kind_of which (is_given (codes "backup") us))))))))
+    Some (λ path first count password pim kind. cat path first count password pim kind) ⊗ path_in us
+    ⊗ number_of (codes "FIRST") us ⊗ number_of (codes "COUNT") us ⊗ password_of (codes "password") us
+    ⊗ pim_of (codes "pim") us ⊗ tried us
 
 abbrev pub passwd_of : List Use → Option Line
 passwd_of us =
-    needs (wanted password_in (value_of (codes "password") us)) (λ password.
-    needs (wanted password_in (value_of (codes "new") us)) (λ new_password.
-    needs (wanted random_in (value_of (codes "random") us)) (λ random.
-    needs (or_default 0 pim_in (value_of (codes "pim") us)) (λ pim.
-    needs (or_default 0 pim_in (value_of (codes "new-pim") us)) (λ new_pim.
-    needs (perhaps prf_named (value_of (codes "new-prf") us)) (λ new_prf.
-    needs (or_default choice.Any choice_in (value_of (codes "kind") us)) (λ which.
-    Some (passwd (position 0 us) password new_password random pim new_pim new_prf
-    (kind_of which (is_given (codes "backup") us))))))))))
+    Some (λ path password new random pim new_pim new_prf kind. passwd path password new random pim new_pim new_prf kind)
+    ⊗ path_in us ⊗ password_of (codes "password") us ⊗ password_of (codes "new") us ⊗ random_of us
+    ⊗ pim_of (codes "pim") us ⊗ pim_of (codes "new-pim") us ⊗ new_prf_of us ⊗ tried us
 
 abbrev pub restore_of : List Use → Option Line
 restore_of us =
-    needs (wanted password_in (value_of (codes "password") us)) (λ password.
-    needs (wanted random_in (value_of (codes "random") us)) (λ random.
-    needs (or_default 0 pim_in (value_of (codes "pim") us)) (λ pim.
-    needs (or_default choice.Any choice_in (value_of (codes "kind") us)) (λ which.
-    Some (restore (position 0 us) password random pim (kind_of which true))))))
-
--- the protecting password with its PIM, which may not stand alone
-abbrev pub protected : Option Text → Option ℕ → Option (Option (Text × ℕ))
-protected None None = Some None
-protected None (Some pim) = None
-protected (Some password) None = Some (Some (password, 0))
-protected (Some password) (Some pim) = Some (Some (password, pim))
-
-abbrev pub protect_of : List Use → Option (Option (Text × ℕ))
-protect_of us =
-    needs (perhaps password_in (value_of (codes "protect") us)) (λ password.
-    needs (perhaps pim_in (value_of (codes "protect-pim") us)) (λ pim.
-    protected password pim))
-
--- a protecting password opens the hidden volume, so the password opens the standard one
-abbrev pub served : Choice → Option (Text × ℕ) → Option Choice
-served which None = Some which
-served choice.Any (Some protect) = Some choice.Standard
-served choice.Standard (Some protect) = Some choice.Standard
-served choice.Hidden (Some protect) = None
+    Some (λ path password random pim kind. restore path password random pim kind) ⊗ path_in us
+    ⊗ password_of (codes "password") us ⊗ random_of us ⊗ pim_of (codes "pim") us ⊗ tried_backup us
 
 abbrev pub serve_of : List Use → Option Line
 serve_of us =
-    needs (wanted password_in (value_of (codes "password") us)) (λ password.
-    needs (or_default 0 pim_in (value_of (codes "pim") us)) (λ pim.
-    needs (or_default choice.Any choice_in (value_of (codes "kind") us)) (λ which.
-    needs (protect_of us) (λ protect.
-    needs (served which protect) (λ opened.
-    needs (or_default 2 (number_within 0 8) (value_of (codes "helpers") us)) (λ helpers.
-    needs (or_default 4 (number_within 1 8) (value_of (codes "workers") us)) (λ workers.
-    Some (serve (position 0 us) password pim (kind_of opened (is_given (codes "backup") us)) protect helpers
-    workers))))))))
+    Some (λ path password pim protect kind helpers workers. serve path password pim kind protect helpers workers)
+    ⊗ path_in us ⊗ password_of (codes "password") us ⊗ pim_of (codes "pim") us ⊗ protect_of us ⊗ tried_by_serve us
+    ⊗ helpers_of us ⊗ workers_of us
 
 abbrev pub drill_of : List Use → Option Line
-drill_of us = needs (number_within 0 (2 ^ 32 - 1) (position 0 us)) (λ n. Some (drill n))
+drill_of us = Some (λ n. drill n) ⊗ drill_number_of us
 
--- ---- a whole line
+-- ---- the table
 
--- the words after the command's name, by its form
-abbrev pub line_by : Form → (List Use → Option Line) → List Text → Option Line
-line_by f make words = needs (uses f words) (λ us. if is_allowed f us then make us else None)
+pub record Row : Type 0 where
+  pub name : Text
+  pub form : Form
+  pub made : List Use → Option Line
 
-abbrev pub line_named : Text → List Text → Option Line
-line_named name words =
-    if bytes_eq name (codes "format") then line_by making (made_of format) words
-    else (if bytes_eq name (codes "hide") then line_by making (made_of hide) words
-    else (if bytes_eq name (codes "info") then line_by (opening 1) info_of words
-    else (if bytes_eq name (codes "cat") then line_by (opening 3) cat_of words
-    else (if bytes_eq name (codes "passwd") then line_by changing passwd_of words
-    else (if bytes_eq name (codes "restore") then line_by restoring restore_of words
-    else (if bytes_eq name (codes "serve") then line_by serving serve_of words
-    else (if bytes_eq name (codes "drill") then line_by drilling drill_of words
-    else None)))))))
+-- the names in a text, with a space between two
+abbrev pub begun : ℕ → List Text → List Text
+begun c [] = (c ∷ []) ∷ []
+begun c (name ∷ names) = (c ∷ name) ∷ names
+
+abbrev pub names : Text → List Text
+names [] = []
+names (c ∷ cs) = if c == 32 then [] ∷ names cs else begun c (names cs)
+
+abbrev pub row : Text → Text → Text → Text → (List Use → Option Line) → Row
+row name positions options flags made = record {
+  name = name;
+  form = record { positions = names positions; options = names options; flags = names flags };
+  made = made;
+}
+
+--  name, positions, options, flags, and the command of what is given
+abbrev pub commands : List Row
+commands =
+    row (codes "format") (codes "PATH") (codes "size password random pim prf algorithm") [] (made_of format)
+    ∷ row (codes "hide") (codes "PATH") (codes "size password random pim prf algorithm") [] (made_of hide)
+    ∷ row (codes "info") (codes "PATH") (codes "password pim kind") (codes "backup") info_of
+    ∷ row (codes "cat") (codes "PATH FIRST COUNT") (codes "password pim kind") (codes "backup") cat_of
+    ∷ row (codes "passwd") (codes "PATH") (codes "password new random pim new-pim new-prf kind") (codes "backup") passwd_of
+    ∷ row (codes "restore") (codes "PATH") (codes "password random pim kind") [] restore_of
+    ∷ row (codes "serve") (codes "PATH") (codes "password pim kind protect protect-pim helpers workers") (codes "backup") serve_of
+    ∷ row (codes "drill") (codes "N") [] [] drill_of
+    ∷ []
+
+-- the row of a name
+abbrev pub row_named : Text → Option Row
+row_named name = find (λ (r : Row). bytes_eq name r.name) commands
 
 unfoldable pub line : List Text → Option Line
 line [] = None
-line (name ∷ words) = line_named name words
+line (name ∷ words) = option_and_then (λ (r : Row). option_and_then r.made (read r.form words)) (row_named name)

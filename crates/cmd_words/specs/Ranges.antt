@@ -1,10 +1,7 @@
--- The limits that the values of a line keep: a PIM is at most 2,147,468, helpers are at most 8,
--- workers are 1 to 8, and what `drill` is given is below 2^32.
+-- The limits that the values of a line keep.
 use Rattle.std.specs.Prelude.{ℕ, ◌≤◌, ◌<◌, ◌^◌, Option, IfSome}
+use Rattle.kdf_hmac.specs.Pbkdf2.{IsPim}
 use Rattle.cmd_words.specs.Line.{Line, Text, format, hide, info, cat, passwd, restore, serve, drill}
-
-abbrev pub IsPim : ℕ → Type 0
-IsPim pim = pim ≤ 2147468
 
 pub record IsPasswdInRange (pim new_pim : ℕ) : Type 0 where
   pub pim_in : IsPim pim

@@ -5,6 +5,6 @@
 pub enum WordsError {
     /// The words make no command line.
     Usage,
-    /// Memory ran out.
+    /// Out of memory.
     NoMemory,
 }

@@ -1,11 +1,11 @@
-//! The forms of the commands: what options, flags and positions each has.
-ghost use Rattle.std.specs.Prelude.{◌≡◌, ◌≤◌, true};
-ghost use Rattle.cmd_words.specs.Names.{form_by, form_of, is_apart, names_of};
-ghost use Rattle.cmd_words.specs.Commands.{form_named};
+//! The commands, and what each may have: the table of the definition, as code.
+ghost use Rattle.std.specs.Prelude.{◌≡◌, ◌≤◌, length, option_map, true};
+ghost use Rattle.cmd_words.specs.Line.{row_named};
+ghost use Rattle.cmd_words.specs.Laws.{form_of, is_apart, row_by};
 
-/// A command by its first word.
+/// A command.
 #[derive(Clone, Copy, Debug, PartialEq, Eq)]
-pub(crate) enum Form {
+pub(crate) enum Name {
     Format,
     Hide,
     Info,
@@ -16,73 +16,70 @@ pub(crate) enum Form {
     Drill,
 }
 
-/// The names of what a command may have. Required options come first.
+/// What a command may have: positional arguments, options and flags, by their names.
 #[derive(Clone, Copy)]
-pub(crate) struct Table {
-    pub required: &'static [&'static str],
-    pub optional: &'static [&'static str],
+pub(crate) struct Form {
+    pub positions: &'static [&'static str],
+    pub options: &'static [&'static str],
     pub flags: &'static [&'static str],
-    pub positions: usize,
 }
 
-/// The form that a first word names.
-pub(crate) fn form_named(name: &str) -> Option<Form>
-    ensures { result ≡ form_named name.now }
+/// The command of a first argument.
+pub(crate) fn command_named(name: &str) -> Option<Name>
+    ensures { option_map row_by result ≡ row_named name.now }
 {
-    let form = match name {
-        "format" => Form::Format,
-        "hide" => Form::Hide,
-        "info" => Form::Info,
-        "cat" => Form::Cat,
-        "passwd" => Form::Passwd,
-        "restore" => Form::Restore,
-        "serve" => Form::Serve,
-        "drill" => Form::Drill,
+    let name = match name {
+        "format" => Name::Format,
+        "hide" => Name::Hide,
+        "info" => Name::Info,
+        "cat" => Name::Cat,
+        "passwd" => Name::Passwd,
+        "restore" => Name::Restore,
+        "serve" => Name::Serve,
+        "drill" => Name::Drill,
         _ => return None,
     };
-    Some(form)
+    Some(name)
 }
 
-/// What a form has.
-pub(crate) fn table_of(form: Form) -> Table
-    ensures form { form_of (names_of result) ≡ form_by form }
-    ensures apart { is_apart (names_of result) ≡ true }
-    ensures few { result.positions ≤ 3 }
+/// What a command may have.
+pub(crate) fn form_of(name: Name) -> Form
+    ensures form { form_of result ≡ (row_by name).form }
+    ensures apart { is_apart (form_of result) ≡ true }
+    ensures few { length result.positions.now ≤ 3 }
 {
-    match form {
-        Form::Format | Form::Hide => Table {
-            required: &["size", "password", "random"],
-            optional: &["pim", "prf", "algorithm"],
+    match name {
+        Name::Format | Name::Hide => Form {
+            positions: &["PATH"],
+            options: &["size", "password", "random", "pim", "prf", "algorithm"],
             flags: &[],
-            positions: 1,
         },
-        Form::Info => Table {
-            required: &["password"],
-            optional: &["pim", "kind"],
+        Name::Info => Form {
+            positions: &["PATH"],
+            options: &["password", "pim", "kind"],
             flags: &["backup"],
-            positions: 1,
         },
-        Form::Cat => Table {
-            required: &["password"],
-            optional: &["pim", "kind"],
+        Name::Cat => Form {
+            positions: &["PATH", "FIRST", "COUNT"],
+            options: &["password", "pim", "kind"],
             flags: &["backup"],
-            positions: 3,
         },
-        Form::Passwd => Table {
-            required: &["password", "new", "random"],
-            optional: &["pim", "new-pim", "new-prf", "kind"],
+        Name::Passwd => Form {
+            positions: &["PATH"],
+            options: &[
+                "password", "new", "random", "pim", "new-pim", "new-prf", "kind",
+            ],
             flags: &["backup"],
-            positions: 1,
         },
-        Form::Restore => Table {
-            required: &["password", "random"],
-            optional: &["pim", "kind"],
+        Name::Restore => Form {
+            positions: &["PATH"],
+            options: &["password", "random", "pim", "kind"],
             flags: &[],
-            positions: 1,
         },
-        Form::Serve => Table {
-            required: &["password"],
-            optional: &[
+        Name::Serve => Form {
+            positions: &["PATH"],
+            options: &[
+                "password",
                 "pim",
                 "kind",
                 "protect",
@@ -91,13 +88,11 @@ pub(crate) fn table_of(form: Form) -> Table
                 "workers",
             ],
             flags: &["backup"],
-            positions: 1,
         },
-        Form::Drill => Table {
-            required: &[],
-            optional: &[],
+        Name::Drill => Form {
+            positions: &["N"],
+            options: &[],
             flags: &[],
-            positions: 1,
         },
     }
 }

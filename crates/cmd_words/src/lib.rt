@@ -1,13 +1,13 @@
-//! The words of a command line.
+//! The arguments of a command line.
 //!
-//! `read_words` reads the words after the program's name and gives the command that they make, with
-//! the defaults filled in. What a line is, is defined once for all commands in `specs/Line.antt`;
-//! the words are read by `clap`, and the proof shows that it takes just these lines.
-//! `docs/vcserve.1.md` is the page for users.
+//! `read_words` reads the arguments after the program's name and returns their command, with the
+//! defaults filled in. What a command line is, is defined once for all commands in
+//! `specs/Line.antt`: a table says what each command may have. `clap` reads the arguments, and the
+//! proof shows that it accepts exactly these lines. `docs/vcserve.1.md` is the page for users.
 //!
-//! The first word chooses a form: what options, flags and positions a command has. `parse` builds
-//! the `clap` command of a form and reads the words after the first, `given` and `values` read
-//! single values of what it found, and `make` makes the command.
+//! The first argument names the command, and `form` says what that may have. `parse` builds the
+//! `clap` command and reads the other arguments, `given` and `values` read single values of what it
+//! found, and `make` makes the command.
 #![tactic(auto)]
 
 pub use command::Command;

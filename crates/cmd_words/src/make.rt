@@ -1,34 +1,63 @@
-//! The commands, made of the values that the words give.
-ghost use Rattle.std.specs.Prelude.{◌≡◌, option_map, string_bytes};
+//! The commands, made of what is given.
+ghost use Rattle.std.specs.Prelude.{◌≡◌, IfSome, Some, option_map, string_bytes};
+ghost use Rattle.kdf_hmac.specs.Pbkdf2.{IsPim};
 ghost use Rattle.cmd_words.specs.Line.{cat_of, drill_of, format, hide, info_of, made_of, passwd_of};
-ghost use Rattle.cmd_words.specs.Line.{position, protect_of, protected, restore_of, serve_of};
-ghost use Rattle.cmd_words.specs.Line.{served};
+ghost use Rattle.cmd_words.specs.Line.{path_in, protect_of, protected, restore_of, serve_of};
+ghost use Rattle.cmd_words.specs.Line.{served, tried, tried_backup, tried_by_serve};
 ghost use Rattle.cmd_words.specs.Meaning.{meaning};
-ghost use Rattle.cmd_words.specs.Found.{uses_found};
+ghost use Rattle.cmd_words.specs.Ranges.{IsInRange};
+ghost use Rattle.cmd_words.specs.Laws.{uses_found};
 
 use crate::choice::{Choice, kind_of};
 use crate::command::Command;
 use crate::given::{
-    algorithm_of, choice_of, helpers_of, is_given, new_prf_of, password_of, pim_of, position,
-    prf_of, protect_password_of, protect_pim_of, random_of, size_of, workers_of,
+    algorithm_of, choice_of, drill_number_of, helpers_of, is_backup, new_prf_of, number_of,
+    password_of, pim_of, prf_of, protect_password_of, protect_pim_of, random_of, workers_of,
 };
-use crate::values::{number_in, number_within};
 use clap::ArgMatches;
 use kdf_hmac::Password;
+use vc_layout::Kind;
+
+// ---- which headers are tried
+
+fn tried(matches: &ArgMatches<'_>) -> Option<Kind>
+    ensures { result ≡ tried (uses_found matches.now) }
+{
+    let choice = choice_of(matches)?;
+    Some(kind_of(choice, is_backup(matches)))
+}
+
+fn tried_backup(matches: &ArgMatches<'_>) -> Option<Kind>
+    ensures { result ≡ tried_backup (uses_found matches.now) }
+{
+    let choice = choice_of(matches)?;
+    Some(kind_of(choice, true))
+}
+
+fn tried_by_serve(matches: &ArgMatches<'_>, protect: &Option<(Password, u32)>) -> Option<Kind>
+    requires { protect_of (uses_found matches.now) ≡ Some protect.now }
+    ensures { result ≡ tried_by_serve (uses_found matches.now) }
+{
+    let choice = served(choice_of(matches)?, protect)?;
+    Some(kind_of(choice, is_backup(matches)))
+}
 
 // ---- the protecting password
 
 fn protect_of(matches: &ArgMatches<'_>) -> Option<Option<(Password, u32)>>
-    ensures { result ≡ protect_of (uses_found matches.now) }
+    ensures value { result ≡ protect_of (uses_found matches.now) }
+    ensures limit { IfSome result (λ p. IfSome p (λ q. IsPim q.1)) }
 {
     let password = protect_password_of(matches)?;
     let pim = protect_pim_of(matches)?;
     protected(password, pim)
 }
 
-// The protecting password with its PIM, which may not stand alone.
+// The protecting password with its PIM, which may not be there alone.
 fn protected(password: Option<Password>, pim: Option<u32>) -> Option<Option<(Password, u32)>>
-    ensures { result ≡ protected password pim }
+    requires { IfSome pim IsPim }
+    ensures value { result ≡ protected password pim }
+    ensures limit { IfSome result (λ p. IfSome p (λ q. IsPim q.1)) }
 {
     match (password, pim) {
         (Some(password), Some(pim)) => Some(Some((password, pim))),
@@ -52,11 +81,13 @@ fn served(choice: Choice, protect: &Option<(Password, u32)>) -> Option<Choice>
 // ---- the commands
 
 /// `format`.
-pub(crate) fn make_format(matches: &ArgMatches<'_>, path: String) -> Option<Command>
-    requires { string_bytes path ≡ position 0 (uses_found matches.now) }
-    ensures { option_map meaning result ≡ made_of format (uses_found matches.now) }
+pub(crate) fn make_format(matches: &ArgMatches<'_>, path: Option<String>) -> Option<Command>
+    requires { option_map string_bytes path ≡ path_in (uses_found matches.now) }
+    ensures command { option_map meaning result ≡ made_of format (uses_found matches.now) }
+    ensures in_range { IfSome result (λ c. IsInRange (meaning c)) }
 {
-    let size = size_of(matches)?;
+    let path = path?;
+    let size = number_of(matches, "size")?;
     let password = password_of(matches, "password")?;
     let random = random_of(matches)?;
     let pim = pim_of(matches, "pim")?;
@@ -74,11 +105,13 @@ pub(crate) fn make_format(matches: &ArgMatches<'_>, path: String) -> Option<Comm
 }
 
 /// `hide`.
-pub(crate) fn make_hide(matches: &ArgMatches<'_>, path: String) -> Option<Command>
-    requires { string_bytes path ≡ position 0 (uses_found matches.now) }
-    ensures { option_map meaning result ≡ made_of hide (uses_found matches.now) }
+pub(crate) fn make_hide(matches: &ArgMatches<'_>, path: Option<String>) -> Option<Command>
+    requires { option_map string_bytes path ≡ path_in (uses_found matches.now) }
+    ensures command { option_map meaning result ≡ made_of hide (uses_found matches.now) }
+    ensures in_range { IfSome result (λ c. IsInRange (meaning c)) }
 {
-    let size = size_of(matches)?;
+    let path = path?;
+    let size = number_of(matches, "size")?;
     let password = password_of(matches, "password")?;
     let random = random_of(matches)?;
     let pim = pim_of(matches, "pim")?;
@@ -96,14 +129,15 @@ pub(crate) fn make_hide(matches: &ArgMatches<'_>, path: String) -> Option<Comman
 }
 
 /// `info`.
-pub(crate) fn make_info(matches: &ArgMatches<'_>, path: String) -> Option<Command>
-    requires { string_bytes path ≡ position 0 (uses_found matches.now) }
-    ensures { option_map meaning result ≡ info_of (uses_found matches.now) }
+pub(crate) fn make_info(matches: &ArgMatches<'_>, path: Option<String>) -> Option<Command>
+    requires { option_map string_bytes path ≡ path_in (uses_found matches.now) }
+    ensures command { option_map meaning result ≡ info_of (uses_found matches.now) }
+    ensures in_range { IfSome result (λ c. IsInRange (meaning c)) }
 {
+    let path = path?;
     let password = password_of(matches, "password")?;
     let pim = pim_of(matches, "pim")?;
-    let choice = choice_of(matches)?;
-    let kind = kind_of(choice, is_given(matches, "backup"));
+    let kind = tried(matches)?;
     Some(Command::Info {
         path,
         password,
@@ -113,16 +147,17 @@ pub(crate) fn make_info(matches: &ArgMatches<'_>, path: String) -> Option<Comman
 }
 
 /// `cat`.
-pub(crate) fn make_cat(matches: &ArgMatches<'_>, path: String) -> Option<Command>
-    requires { string_bytes path ≡ position 0 (uses_found matches.now) }
-    ensures { option_map meaning result ≡ cat_of (uses_found matches.now) }
+pub(crate) fn make_cat(matches: &ArgMatches<'_>, path: Option<String>) -> Option<Command>
+    requires { option_map string_bytes path ≡ path_in (uses_found matches.now) }
+    ensures command { option_map meaning result ≡ cat_of (uses_found matches.now) }
+    ensures in_range { IfSome result (λ c. IsInRange (meaning c)) }
 {
-    let first = number_in(position(matches, 1))?;
-    let count = number_in(position(matches, 2))?;
+    let path = path?;
+    let first = number_of(matches, "FIRST")?;
+    let count = number_of(matches, "COUNT")?;
     let password = password_of(matches, "password")?;
     let pim = pim_of(matches, "pim")?;
-    let choice = choice_of(matches)?;
-    let kind = kind_of(choice, is_given(matches, "backup"));
+    let kind = tried(matches)?;
     Some(Command::Cat {
         path,
         first,
@@ -134,18 +169,19 @@ pub(crate) fn make_cat(matches: &ArgMatches<'_>, path: String) -> Option<Command
 }
 
 /// `passwd`.
-pub(crate) fn make_passwd(matches: &ArgMatches<'_>, path: String) -> Option<Command>
-    requires { string_bytes path ≡ position 0 (uses_found matches.now) }
-    ensures { option_map meaning result ≡ passwd_of (uses_found matches.now) }
+pub(crate) fn make_passwd(matches: &ArgMatches<'_>, path: Option<String>) -> Option<Command>
+    requires { option_map string_bytes path ≡ path_in (uses_found matches.now) }
+    ensures command { option_map meaning result ≡ passwd_of (uses_found matches.now) }
+    ensures in_range { IfSome result (λ c. IsInRange (meaning c)) }
 {
+    let path = path?;
     let password = password_of(matches, "password")?;
     let new_password = password_of(matches, "new")?;
     let random = random_of(matches)?;
     let pim = pim_of(matches, "pim")?;
     let new_pim = pim_of(matches, "new-pim")?;
     let new_prf = new_prf_of(matches)?;
-    let choice = choice_of(matches)?;
-    let kind = kind_of(choice, is_given(matches, "backup"));
+    let kind = tried(matches)?;
     Some(Command::Passwd {
         path,
         password,
@@ -159,36 +195,38 @@ pub(crate) fn make_passwd(matches: &ArgMatches<'_>, path: String) -> Option<Comm
 }
 
 /// `restore`.
-pub(crate) fn make_restore(matches: &ArgMatches<'_>, path: String) -> Option<Command>
-    requires { string_bytes path ≡ position 0 (uses_found matches.now) }
-    ensures { option_map meaning result ≡ restore_of (uses_found matches.now) }
+pub(crate) fn make_restore(matches: &ArgMatches<'_>, path: Option<String>) -> Option<Command>
+    requires { option_map string_bytes path ≡ path_in (uses_found matches.now) }
+    ensures command { option_map meaning result ≡ restore_of (uses_found matches.now) }
+    ensures in_range { IfSome result (λ c. IsInRange (meaning c)) }
 {
+    let path = path?;
     let password = password_of(matches, "password")?;
     let random = random_of(matches)?;
     let pim = pim_of(matches, "pim")?;
-    let choice = choice_of(matches)?;
+    let kind = tried_backup(matches)?;
     Some(Command::Restore {
         path,
         password,
         random,
         pim,
-        kind: kind_of(choice, true),
+        kind,
     })
 }
 
 /// `serve`.
-pub(crate) fn make_serve(matches: &ArgMatches<'_>, path: String) -> Option<Command>
-    requires { string_bytes path ≡ position 0 (uses_found matches.now) }
-    ensures { option_map meaning result ≡ serve_of (uses_found matches.now) }
+pub(crate) fn make_serve(matches: &ArgMatches<'_>, path: Option<String>) -> Option<Command>
+    requires { option_map string_bytes path ≡ path_in (uses_found matches.now) }
+    ensures command { option_map meaning result ≡ serve_of (uses_found matches.now) }
+    ensures in_range { IfSome result (λ c. IsInRange (meaning c)) }
 {
+    let path = path?;
     let password = password_of(matches, "password")?;
     let pim = pim_of(matches, "pim")?;
-    let choice = choice_of(matches)?;
     let protect = protect_of(matches)?;
-    let opened = served(choice, &protect)?;
+    let kind = tried_by_serve(matches, &protect)?;
     let helpers = helpers_of(matches)?;
     let workers = workers_of(matches)?;
-    let kind = kind_of(opened, is_given(matches, "backup"));
     Some(Command::Serve {
         path,
         password,
@@ -202,8 +240,9 @@ pub(crate) fn make_serve(matches: &ArgMatches<'_>, path: String) -> Option<Comma
 
 /// `drill`.
 pub(crate) fn make_drill(matches: &ArgMatches<'_>) -> Option<Command>
-    ensures { option_map meaning result ≡ drill_of (uses_found matches.now) }
+    ensures command { option_map meaning result ≡ drill_of (uses_found matches.now) }
+    ensures in_range { IfSome result (λ c. IsInRange (meaning c)) }
 {
-    let n = number_within(0, 0xffff_ffff, position(matches, 0))?;
+    let n = drill_number_of(matches)?;
     Some(Command::Drill { n })
 }

@@ -1,7 +1,7 @@
 //! Words that `clap` would read in a way of its own.
 ghost use Rattle.std.specs.Prelude.{◌≡◌, map, string_bytes};
 ghost use Rattle.std.specs.List.{list_all};
-ghost use Rattle.cmd_words.specs.Names.{is_long_or_plain};
+ghost use Rattle.cmd_words.specs.Laws.{is_long_or_plain};
 
 /// Whether each word that begins with a hyphen begins with two and has more after them. A parser of
 /// options takes `-` for a value, `--` for the end of all options, and `-x` for a bundle of flags.

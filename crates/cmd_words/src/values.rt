@@ -1,15 +1,13 @@
-//! Single values, as the words of options and positions write them.
-ghost use Rattle.std.specs.Prelude.{◌≡◌, ◌<◌, length, nat_lt, true};
+//! Single values, as options and positions write them.
+ghost use Rattle.std.specs.Prelude.{◌≡◌, ◌<◌, ◌≤◌, IfSome, length, nat_lt, true};
 ghost use Rattle.std.specs.Char.{digit_value, is_ascii_digit};
 ghost use Rattle.std.specs.List.{list_all};
+ghost use Rattle.kdf_hmac.specs.Pbkdf2.{IsPim};
 ghost use Rattle.cmd_words.specs.Line.{bytes_in, choice_in, number_in, number_within, password_in};
 ghost use Rattle.cmd_words.specs.Line.{pim_in, random_in};
 
 use crate::choice::Choice;
-use kdf_hmac::Password;
-
-/// The greatest PIM, whose count of iterations is below 2^31.
-const GREATEST_PIM: u64 = 2_147_468;
+use kdf_hmac::{GREATEST_PIM, Password};
 
 /// 1 to 20 decimal digits of a number below 2^64.
 #[tactic(auto, unfolding(crate::specs::Line::number_in))]
@@ -33,7 +31,9 @@ fn is_digits(text: &[u8]) -> bool
 
 /// A number from `least` to `most`.
 pub(crate) fn number_within(least: u64, most: u64, text: &str) -> Option<u64>
-    ensures { result ≡ number_within least most text.now }
+    ensures value { result ≡ number_within least most text.now }
+    ensures least { IfSome result (λ n. least ≤ n) }
+    ensures most { IfSome result (λ n. n ≤ most) }
 {
     let number = number_in(text)?;
     if number < least || number > most {
@@ -51,10 +51,10 @@ pub(crate) fn password_in(text: &str) -> Option<Password>
 
 /// A PIM, of which 0 stands for none.
 pub(crate) fn pim_in(text: &str) -> Option<u32>
-    ensures { result ≡ pim_in text.now }
+    ensures value { result ≡ pim_in text.now }
+    ensures limit { IfSome result IsPim }
 {
-    let pim = number_within(0, GREATEST_PIM, text)?;
-    Some(pim as u32)
+    small_within(0, GREATEST_PIM, text)
 }
 
 /// Which headers are tried.
@@ -71,7 +71,9 @@ pub(crate) fn choice_in(text: &str) -> Option<Choice>
 
 /// A number from `least` to `most`, which is below 2^32.
 pub(crate) fn small_within(least: u32, most: u32, text: &str) -> Option<u32>
-    ensures { result ≡ number_within least most text.now }
+    ensures value { result ≡ number_within least most text.now }
+    ensures least { IfSome result (λ n. least ≤ n) }
+    ensures most { IfSome result (λ n. n ≤ most) }
 {
     let number = number_within(u64::from(least), u64::from(most), text)?;
     Some(number as u32)

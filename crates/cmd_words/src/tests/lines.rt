@@ -1,5 +1,5 @@
-//! Lines and what they have to make, worked out by hand from the definition of a line. `|` stands
-//! between words, `@` for a key in lower case, `^` for the same in upper case, `#` for 127 letters
+//! Lines and their commands, worked out by hand from the definition of a line. `|` stands between
+//! arguments, `@` for a key in lower case, `^` for the same in upper case, `#` for 127 letters
 //! x and `$` for 62 zeros. What a command is shown as has the command's name and its values, in the
 //! order of `Command`.
 pub(crate) static NAMES: [(&str, &str); 14] = [
@@ -182,8 +182,11 @@ pub(crate) static INFO_3: [(&str, &str); 24] = [
     ("info|--0=C1|--password=x", "usage"),
 ];
 
-pub(crate) static CAT: [(&str, &str); 34] = [
+pub(crate) static CAT: [(&str, &str); 37] = [
     ("cat", "usage"),
+    ("cat|--PATH=C1|0|1|--password=x", "usage"),
+    ("cat|C1|0|--COUNT|1|--password=x", "usage"),
+    ("cat|PATH|0|1|--password=x", "cat|PATH|0|1|x|0|Any"),
     ("cat|C1", "usage"),
     ("cat|C1|0", "usage"),
     ("cat|C1|0|1", "usage"),
@@ -624,7 +627,7 @@ pub(crate) static SERVE: [(&str, &str); 40] = [
     ("serve|C1|--password=x|--port=10809", "usage"),
 ];
 
-pub(crate) static DRILL: [(&str, &str); 16] = [
+pub(crate) static DRILL: [(&str, &str); 17] = [
     ("drill", "usage"),
     ("drill|0", "drill|0"),
     ("drill|7", "drill|7"),
@@ -641,4 +644,5 @@ pub(crate) static DRILL: [(&str, &str); 16] = [
     ("drill|x", "usage"),
     ("drill|1|--password=x", "usage"),
     ("drill|--n=1", "usage"),
+    ("drill|--N=1", "usage"),
 ];

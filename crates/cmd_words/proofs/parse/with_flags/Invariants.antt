@@ -1,7 +1,7 @@
 use Rattle.std.proofs.Common.{◌≡◌, map, take}
 use Rattle.clap.specs.Walk.{texts}
 use Rattle.clap.specs.Simple.{app_of}
-use Rattle.cmd_words.specs.Names.{flag_rule, with_rules}
+use Rattle.cmd_words.specs.Laws.{flag_rule, with_rules}
 use Rattle.cmd_words.proofs.parse.with_flags.Given as goal
 
 abbrev pub invariant-loop-name : goal.invariant-loop-name

@@ -1,5 +1,5 @@
 use Rattle.clap.specs.Simple.{app_of}
-use Rattle.cmd_words.specs.Names.{option_rule}
+use Rattle.cmd_words.specs.Laws.{option_rule}
 use Rattle.cmd_words.proofs.Rules.{rules_more, rules_none}
 use Rattle.cmd_words.proofs.parse.with_options.Goals as goal
 
@@ -8,5 +8,5 @@ loop-name-init c = rules_none (app_of c.args.command)
 
 pub loop-name-preserved : goal.loop-name-preserved
 loop-name-preserved c =
-    rules_more (option_rule c.args.required) _ _ _ _ c.args.names.now c.loop-name.name-index _ c.loop-name-test.true c.loop-name.invariant
+    rules_more option_rule _ _ _ _ c.args.names.now c.loop-name.name-index _ c.loop-name-test.true c.loop-name.invariant
     (c.in_ok-command.ensures.shape c.option.ensures.local) c.option.ensures.rule

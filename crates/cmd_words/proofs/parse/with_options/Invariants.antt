@@ -1,9 +1,9 @@
 use Rattle.std.proofs.Common.{◌≡◌, map, take}
 use Rattle.clap.specs.Walk.{texts}
 use Rattle.clap.specs.Simple.{app_of}
-use Rattle.cmd_words.specs.Names.{option_rule, with_rules}
+use Rattle.cmd_words.specs.Laws.{option_rule, with_rules}
 use Rattle.cmd_words.proofs.parse.with_options.Given as goal
 
 abbrev pub invariant-loop-name : goal.invariant-loop-name
 invariant-loop-name l =
-    app_of l.command ≡ with_rules (app_of l.fn.command) (map (option_rule l.required) (texts (take l.name-index l.names)))
+    app_of l.command ≡ with_rules (app_of l.fn.command) (map option_rule (texts (take l.name-index l.names)))

@@ -1,5 +1,5 @@
 use Rattle.clap.specs.Simple.{app_of}
-use Rattle.cmd_words.specs.Names.{place_rule}
+use Rattle.cmd_words.specs.Laws.{place_rule}
 use Rattle.cmd_words.proofs.Rules.{rules_more, rules_none}
 use Rattle.cmd_words.proofs.parse.with_places.Goals as goal
 
