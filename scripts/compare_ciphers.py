@@ -3,9 +3,10 @@
 
   compare_ciphers.py [NAME] [CASES]
 
-NAME is a row of CIPHERS, `serpent` if none is named, and CASES how many keys and blocks are
-tried, 10000 if no number is given. The first cases have one bit set or none, the others are
-random.
+NAME is a row of CIPHERS, `serpent` if none is named, and CASES how many keys and lists of blocks
+are tried, 10000 if no number is given. The first cases have one bit set or none, the others are
+random. A list has eleven blocks: the first is treated alone, and the other ten by one call, since
+some ciphers treat blocks in groups of eight and the rest after them.
 
 No program of the repository enciphers single blocks. So a copy of the cipher's crate and of those
 below it is made in a temporary folder, with a program beside them that does, and `rt run` proves
@@ -25,6 +26,8 @@ import tempfile
 
 ROOT = os.path.dirname(os.path.dirname(os.path.abspath(__file__)))
 KEY, BLOCK = 32, 16
+# a block alone, and ten in a list
+BLOCKS = 11 * BLOCK
 ECB = 1
 
 # our name: the crate, its type, and libgcrypt's name
@@ -34,7 +37,7 @@ CIPHERS = {
     "twofish": ("twofish_core", "Twofish256", b"TWOFISH"),
 }
 
-PROBE = """//! Enciphers and deciphers each block that comes in behind its key.
+PROBE = """//! Enciphers and deciphers the blocks that come in behind each key.
 #![tactic(auto)]
 
 use cipher_base::BlockCipher;
@@ -49,12 +52,19 @@ fn main(rt: HostRuntime) -> io::Result<()> {{
         input.read_exact(&mut key)?;
         let mut block = [0; 16];
         input.read_exact(&mut block)?;
+        let mut list = [0; 160];
+        input.read_exact(&mut list)?;
         let cipher = {type}::new(&key);
         let mut enciphered = block;
         cipher.encipher(&mut enciphered);
         output.write_all(&enciphered)?;
+        let mut enciphered = list;
+        cipher.encipher_blocks(&mut enciphered);
+        output.write_all(&enciphered)?;
         cipher.decipher(&mut block);
         output.write_all(&block)?;
+        cipher.decipher_blocks(&mut list);
+        output.write_all(&list)?;
     }}
     Ok(())
 }}
@@ -78,46 +88,52 @@ def below(crate):
     return found
 
 
+def build(folder, crate, kind, count):
+    """The path of a program that treats `count` cases by our cipher, built in a folder."""
+    crates = below(crate)
+    for name in crates:
+        shutil.copytree(
+            os.path.join(ROOT, "crates", name),
+            os.path.join(folder, "crates", name),
+            ignore=shutil.ignore_patterns("out", "must-fail"),
+        )
+    with open(os.path.join(folder, "crates.txt"), "w", encoding="utf-8") as file:
+        for name, deps in crates.items():
+            file.write(f"{name}: {' '.join(deps)}\n")
+        file.write(f"cipher_probe: {' '.join(crates)}\n")
+    probe = os.path.join(folder, "crates", "cipher_probe")
+    os.makedirs(os.path.join(probe, "src"))
+    with open(os.path.join(probe, "src", "main.rt"), "w", encoding="utf-8") as file:
+        file.write(PROBE.format(**{"crate": crate, "type": kind, "cases": count}))
+    built = subprocess.run(["rt", "run"], cwd=probe, capture_output=True, input=b"")
+    program = os.path.join(probe, "out", "cipher_probe")
+    if not os.path.exists(program):
+        sys.exit("the program was not built:\n" + built.stdout.decode() + built.stderr.decode())
+    return program
+
+
 def ours(crate, kind, cases):
-    """What our cipher makes of each case: the block enciphered, and the block deciphered."""
+    """What our cipher makes of each case: the blocks enciphered, and the blocks deciphered."""
     with tempfile.TemporaryDirectory() as folder:
-        crates = below(crate)
-        for name in crates:
-            shutil.copytree(
-                os.path.join(ROOT, "crates", name),
-                os.path.join(folder, "crates", name),
-                ignore=shutil.ignore_patterns("out", "must-fail"),
-            )
-        with open(os.path.join(folder, "crates.txt"), "w", encoding="utf-8") as file:
-            for name, deps in crates.items():
-                file.write(f"{name}: {' '.join(deps)}\n")
-            file.write(f"cipher_probe: {' '.join(crates)}\n")
-        probe = os.path.join(folder, "crates", "cipher_probe")
-        os.makedirs(os.path.join(probe, "src"))
-        with open(os.path.join(probe, "src", "main.rt"), "w", encoding="utf-8") as file:
-            file.write(PROBE.format(**{"crate": crate, "type": kind, "cases": len(cases)}))
-        built = subprocess.run(["rt", "run"], cwd=probe, capture_output=True, input=b"")
-        program = os.path.join(probe, "out", "cipher_probe")
-        if not os.path.exists(program):
-            sys.exit("the program was not built:\n" + built.stdout.decode() + built.stderr.decode())
-        records = b"".join(key + block for key, block in cases)
+        program = build(folder, crate, kind, len(cases))
+        records = b"".join(key + blocks for key, blocks in cases)
         told = subprocess.run([program], input=records, capture_output=True, check=True).stdout
-    pairs = [told[i : i + 2 * BLOCK] for i in range(0, len(told), 2 * BLOCK)]
-    return [(pair[:BLOCK], pair[BLOCK:]) for pair in pairs]
+    pairs = [told[i : i + 2 * BLOCKS] for i in range(0, len(told), 2 * BLOCKS)]
+    return [(pair[:BLOCKS], pair[BLOCKS:]) for pair in pairs]
 
 
 def theirs(library, name, cases):
     """The same of libgcrypt's cipher."""
     answers = []
     algorithm = library.gcry_cipher_map_name(name)
-    for key, block in cases:
+    for key, blocks in cases:
         handle = ctypes.c_void_p()
         assert library.gcry_cipher_open(ctypes.byref(handle), algorithm, ECB, 0) == 0
         assert library.gcry_cipher_setkey(handle, key, KEY) == 0
         made = []
         for call in (library.gcry_cipher_encrypt, library.gcry_cipher_decrypt):
-            out = ctypes.create_string_buffer(BLOCK)
-            assert call(handle, out, BLOCK, block, BLOCK) == 0
+            out = ctypes.create_string_buffer(BLOCKS)
+            assert call(handle, out, BLOCKS, blocks, BLOCKS) == 0
             made.append(out.raw)
         library.gcry_cipher_close(handle)
         answers.append(tuple(made))
@@ -125,8 +141,8 @@ def theirs(library, name, cases):
 
 
 def cases_of(count):
-    """Records of a key and a block: none set, then each bit alone, then random ones."""
-    size = KEY + BLOCK
+    """Records of a key and its blocks: none set, then each bit alone, then random ones."""
+    size = KEY + BLOCKS
     numbers = [0] + [1 << i for i in range(8 * size)]
     numbers += [random.getrandbits(8 * size) for _ in range(count)]
     records = [number.to_bytes(size, "big") for number in numbers[:count]]
@@ -134,7 +150,7 @@ def cases_of(count):
 
 
 def bits_of(pair):
-    """How many bits are set in the key and the block of a case."""
+    """How many bits are set in the key and the blocks of a case."""
     return sum(byte.bit_count() for part in pair[0] for byte in part)
 
 
@@ -153,12 +169,12 @@ def main():
     pairs = zip(cases, ours(crate, kind, cases), theirs(library, other, cases), strict=True)
     differing = [pair for pair in pairs if pair[1] != pair[2]]
     if not differing:
-        print(f"{name}: {count} keys and blocks agree with libgcrypt in both directions")
+        print(f"{name}: {count} keys and lists of blocks agree with libgcrypt in both directions")
         return 0
-    (key, block), we, they = min(differing, key=bits_of)
+    (key, blocks), we, they = min(differing, key=bits_of)
     print(f"{name}: {len(differing)} of {count} differ; under the key {key.hex()}")
     for i, direction in enumerate(("enciphered", "deciphered")):
-        print(f"{block.hex()} {direction}: {we[i].hex()}, libgcrypt {they[i].hex()}")
+        print(f"{blocks.hex()} {direction}: {we[i].hex()}, libgcrypt {they[i].hex()}")
     return 1
 
 

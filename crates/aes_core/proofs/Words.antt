@@ -1,17 +1,19 @@
 -- The key schedule, word by word.
-use Rattle.std.proofs.Common.{◌≡◌, ◌<◌, ◌≤◌, ◌+◌, ◌*◌, ◌-◌, ◌/◌, ◌%◌, ◌^◌, List, [], ◌∷◌, ◌++◌, ℕ, Bool, true, false, suc, length, take, drop, length-append, length-drop, get_or, eqb, cond, ◌≢◌, refl, sym, ap, ap₂, ◌∙◌, subst, arith, bit_xor}
+use Rattle.std.proofs.Common.{◌≡◌, ◌<◌, ◌≤◌, ◌+◌, ◌*◌, ◌-◌, ◌/◌, ◌%◌, ◌^◌, List, [], ◌∷◌, ◌++◌, ℕ, Bool, true, false, suc, length, replicate, lit<, take, drop, length-append, length-drop, get_or, eqb, cond, ◌≢◌, refl, sym, ap, ap₂, ◌∙◌, subst, arith, bit_xor}
 use Rattle.std.proofs.lemmas.Bool.{eq-eqb, ne_eqb}
 use Rattle.std.proofs.lemmas.List.{take_all, length-take-le}
 use Rattle.std.proofs.lemmas.Slice.{take-put_mid}
 use Rattle.std.proofs.Math.Seq.{take-append_seam}
 use borrow.Rule.Slice.PartMut.{put_mid}
 use Rattle.std.specs.Int.Bits.{xor_zero_r}
-use Rattle.vc_base.specs.Bytes.{xor_bytes}
+use Rattle.vc_base.specs.Bytes.{IsBytes, xor_bytes}
 use Rattle.vc_base.specs.Polynomial.{product, times, remainder, coefficients}
-use Rattle.aes_core.specs.Aes.{sub_byte, power, turned, next_word, schedule}
-use Rattle.aes_core.specs.Laws.EachByte.{agree_below, agree_at}
+use Rattle.aes_core.specs.Aes.{sub_byte, sub_word, sub_bytes, power, turned, next_word, schedule}
+use Rattle.vc_base.proofs.EachNumber.{agree_below, agree_at}
+use Rattle.aes_core.specs.Laws.Planes.{plane, InEachBlock, Transposed}
 use Rattle.aes_core.specs.Laws.States.{four}
-use Rattle.aes_core.proofs.Pieces.{piece-take}
+use Rattle.vc_base.proofs.Bytes.{AreBytes, is_bytes, AreBytes-cons, AreBytes-nil}
+use Rattle.vc_base.proofs.Chunks.{piece-take}
 
 -- ---- the exclusive or of words
 
@@ -21,6 +23,29 @@ pub xor_four : (s t : List ℕ) → length s ≡ 4 → length t ≡ 4
     ≡ xor_bytes s t
 unfolding xor_bytes
 xor_four s t long_s long_t = sym (ap₂ xor_bytes (four s long_s) (four t long_t))
+
+-- ---- SubWord, through eight blocks
+
+-- a word as the first column of a block
+abbrev pub word_block : ℕ → ℕ → ℕ → ℕ → List ℕ
+word_block a b c d = a ∷ b ∷ c ∷ d ∷ 0 ∷ 0 ∷ 0 ∷ 0 ∷ 0 ∷ 0 ∷ 0 ∷ 0 ∷ 0 ∷ 0 ∷ 0 ∷ 0 ∷ []
+
+pub word_block_bytes : (a b c d : ℕ) → a < 256 → b < 256 → c < 256 → d < 256 → IsBytes 16 (word_block a b c d)
+word_block_bytes a b c d a_small b_small c_small d_small =
+    let more : (xs : List ℕ) → AreBytes xs → AreBytes (0 ∷ xs) = λ xs rest. AreBytes-cons 0 xs (lit< tt) rest in
+    is_bytes 16 (word_block a b c d) refl
+    (AreBytes-cons _ _ a_small (AreBytes-cons _ _ b_small (AreBytes-cons _ _ c_small (AreBytes-cons _ _ d_small
+    (more _ (more _ (more _ (more _ (more _ (more _ (more _ (more _ (more _ (more _ (more _ (more _ AreBytes-nil))))))))))))))))
+
+pub word_substituted : (a b c d : ℕ) (y z v : List (List ℕ)) → Transposed (replicate 8 (word_block a b c d)) y
+    → InEachBlock sub_bytes y z → Transposed z v
+    → get_or (plane v 0) 0 0 ∷ get_or (plane v 0) 1 0 ∷ get_or (plane v 0) 2 0 ∷ get_or (plane v 0) 3 0 ∷ []
+    ≡ sub_word (a ∷ b ∷ c ∷ d ∷ [])
+unfolding sub_bytes
+word_substituted a b c d y z v first box second =
+    let block : plane v 0 ≡ sub_bytes (word_block a b c d)
+    = second.rows 0 (lit< tt) ∙ box.each 0 (lit< tt) ∙ ap sub_bytes (first.blocks 0 (lit< tt)) in
+    ap (λ (s : List ℕ). get_or s 0 0 ∷ get_or s 1 0 ∷ get_or s 2 0 ∷ get_or s 3 0 ∷ []) block
 
 -- ---- what a word adds to the next
 
@@ -50,20 +75,17 @@ turned_by_8 i a b c d below at =
     ∙ sym (chosen (eqb (i % 8) 0) _ _ (eq-eqb (i % 8) 0 at))
 
 -- the words in the middle between those
-turned_by_4 : (i a b c d : ℕ) → i % 8 ≢ 0 → i % 8 ≡ 4 → sub_byte a ∷ sub_byte b ∷ sub_byte c ∷ sub_byte d ∷ [] ≡ turned i (a ∷ b ∷ c ∷ d ∷ [])
+pub turned_middle : (i : ℕ) (t : List ℕ) → length t ≡ 4 → i % 8 ≢ 0 → i % 8 ≡ 4
+    → sub_word (get_or t 0 0 ∷ get_or t 1 0 ∷ get_or t 2 0 ∷ get_or t 3 0 ∷ []) ≡ turned i t
 unfolding turned
-turned_by_4 i a b c d not_at at =
-    sym (other (eqb (i % 8) 0) _ _ (ne_eqb (i % 8) 0 not_at) ∙ chosen (eqb (i % 8) 4) _ _ (eq-eqb (i % 8) 4 at))
+turned_middle i t long not_at at =
+    ap sub_word (sym (four t long))
+    ∙ sym (other (eqb (i % 8) 0) _ _ (ne_eqb (i % 8) 0 not_at) ∙ chosen (eqb (i % 8) 4) _ _ (eq-eqb (i % 8) 4 at))
 
 pub turned_first : (i : ℕ) (t : List ℕ) → length t ≡ 4 → i < 60 → i % 8 ≡ 0
     → bit_xor (sub_byte (get_or t 1 0)) (1 * 2 ^ (i / 8 - 1) % 256) ∷ sub_byte (get_or t 2 0) ∷ sub_byte (get_or t 3 0) ∷ sub_byte (get_or t 0 0) ∷ [] ≡ turned i t
 turned_first i t long below at =
     turned_by_8 i (get_or t 0 0) (get_or t 1 0) (get_or t 2 0) (get_or t 3 0) below at ∙ ap (turned i) (sym (four t long))
-
-pub turned_middle : (i : ℕ) (t : List ℕ) → length t ≡ 4 → i % 8 ≢ 0 → i % 8 ≡ 4
-    → sub_byte (get_or t 0 0) ∷ sub_byte (get_or t 1 0) ∷ sub_byte (get_or t 2 0) ∷ sub_byte (get_or t 3 0) ∷ [] ≡ turned i t
-turned_middle i t long not_at at =
-    turned_by_4 i (get_or t 0 0) (get_or t 1 0) (get_or t 2 0) (get_or t 3 0) not_at at ∙ ap (turned i) (sym (four t long))
 
 pub turned_rest : (i : ℕ) (t : List ℕ) → i % 8 ≢ 0 → i % 8 ≢ 4 → t ≡ turned i t
 unfolding turned

@@ -9,7 +9,8 @@
 -- schedule key n                the first 8 + n words of the key schedule
 -- enciphered key b              what the block b becomes under a key of 32 bytes
 -- deciphered key b              the block that it came from
-use Rattle.std.specs.Prelude.{ℕ, zero, suc, ◌+◌, ◌-◌, ◌*◌, ◌/◌, ◌%◌, ◌^◌, ◌==◌, Bool, if◌then◌else◌, List, [], ◌∷◌, ◌++◌, map, take, drop, slice_index, bit_xor}
+use Rattle.std.specs.Prelude.{ℕ, zero, suc, ◌+◌, ◌-◌, ◌*◌, ◌/◌, ◌%◌, ◌^◌, ◌==◌, if◌then◌else◌, List, [], ◌∷◌, ◌++◌, map, take, drop, slice_index, bit_xor}
+use Rattle.vc_base.specs.Bits.{of_bits, number_below}
 use Rattle.vc_base.specs.Bytes.{xor_bytes, piece}
 use Rattle.vc_base.specs.Polynomial.{product}
 
@@ -17,16 +18,11 @@ use Rattle.vc_base.specs.Polynomial.{product}
 abbrev pub mul : ℕ → ℕ → ℕ
 mul a b = product 8 0x11b a b
 
--- the byte below n that passes a test which at most one passes, or 0 where none does
-unfoldable pub byte_below : ℕ → (ℕ → Bool) → ℕ
-byte_below zero test = 0
-byte_below (suc n) test = if test n then n else byte_below n test
-
 -- ---- the S-box (5.1.1, 5.3.2)
 
 -- the multiplicative inverse, and 0 of 0
 abbrev pub inverse : ℕ → ℕ
-inverse b = byte_below 256 (λ c. mul b c == 1)
+inverse b = number_below 256 (λ c. mul b c == 1)
 
 -- bit i of b, the places taken modulo 8
 abbrev pub bit : ℕ → ℕ → ℕ
@@ -37,18 +33,13 @@ bit b i = b / 2 ^ (i % 8) % 2
 abbrev pub affine_bit : ℕ → ℕ → ℕ
 affine_bit b i = (bit b i + bit b (i + 4) + bit b (i + 5) + bit b (i + 6) + bit b (i + 7) + bit 0x63 i) % 2
 
--- the number whose n lowest bits are f 0, f 1, .., f (n - 1), and whose others are 0
-unfoldable pub of_bits : (ℕ → ℕ) → ℕ → ℕ
-of_bits f zero = 0
-of_bits f (suc n) = of_bits f n + f n * 2 ^ n
-
 -- the S-box
 unfoldable pub sub_byte : ℕ → ℕ
 sub_byte b = of_bits (affine_bit (inverse b)) 8
 
 -- the inverse S-box: the byte whose S-box entry b is
 unfoldable pub inverse_sub_byte : ℕ → ℕ
-inverse_sub_byte b = byte_below 256 (λ c. sub_byte c == b)
+inverse_sub_byte b = number_below 256 (λ c. sub_byte c == b)
 
 -- ---- the steps of a round (5.1, 5.3)
 

@@ -1,9 +1,8 @@
 -- The laws of `BlockCipher`: the cipher and the inverse cipher undo each other, and keep blocks blocks.
+-- And what private contracts cite.
 
--- functions of a byte that agree at each of the 256 bytes, by computing
-pub mod EachByte
--- the S-box and its inverse are the tables of the code, and undo each other
-pub mod Tables
+-- the S-box and its inverse undo each other
+pub mod Sbox
 -- lists of 4 and of 16 bytes, element by element
 pub mod States
 -- products of the field of AES
@@ -12,3 +11,5 @@ pub mod Field
 pub mod MixColumns
 -- the laws
 pub mod Undone
+-- eight blocks as bit planes
+pub mod Planes

@@ -1,9 +1,11 @@
 //! The key schedule (FIPS 197, 5.2): the 60 words of 4 bytes that the round keys are made of.
-ghost use Rattle.std.specs.Prelude.{◌≡◌, ◌≤◌, ◌<◌, ◌-◌};
+ghost use Rattle.std.specs.Prelude.{◌≡◌, ◌≤◌, ◌<◌, ◌-◌, [], ◌∷◌};
 ghost use Rattle.vc_base.specs.Bytes.{piece};
-ghost use Rattle.aes_core.specs.Aes.{schedule, turned, next_word};
+ghost use Rattle.aes_core.specs.Aes.{schedule, sub_word, turned, next_word};
 
-use crate::sbox::sub;
+use crate::planes::transposed;
+use crate::sbox::substituted;
+use std::simd::u8x16;
 
 /// The 60 words that a key makes.
 pub fn expand(key: &[u8; 32]) -> [u8; 240]
@@ -52,10 +54,21 @@ fn turn(i: usize, last: [u8; 4]) -> [u8; 4]
 {
     let [a, b, c, d] = last;
     if i % 8 == 0 {
-        [sub(b) ^ (1 << (i / 8 - 1)), sub(c), sub(d), sub(a)]
+        let [e, f, g, h] = substituted_word(b, c, d, a);
+        [e ^ (1 << (i / 8 - 1)), f, g, h]
     } else if i % 8 == 4 {
-        [sub(a), sub(b), sub(c), sub(d)]
+        substituted_word(a, b, c, d)
     } else {
         last
     }
+}
+
+// SubWord: the word is the first column of eight blocks, which go through the circuit of the S-box.
+fn substituted_word(a: u8, b: u8, c: u8, d: u8) -> [u8; 4]
+    ensures { result ≡ sub_word (a ∷ b ∷ c ∷ d ∷ []) }
+{
+    let block = u8x16::from_array([a, b, c, d, 0, 0, 0, 0, 0, 0, 0, 0, 0, 0, 0, 0]);
+    let [first, ..] = transposed(substituted(transposed([block; 8])));
+    let [e, f, g, h, ..] = first.to_array();
+    [e, f, g, h]
 }

@@ -10,3 +10,5 @@ pub mod Stretches
 pub mod Multiplying
 -- the first tweaks of units, in groups
 pub mod Groups
+-- blocks in groups of eight
+pub mod ByGroups

@@ -18,5 +18,5 @@ pub mod Boxes
 pub mod Mixing
 -- the rounds, one after the other, as the code counts them
 pub mod RoundByRound
--- blocks in groups of eight
+-- eight blocks that spell eight states
 pub mod Groups

@@ -5,10 +5,11 @@
 use Rattle.std.proofs.Common.{◌≡◌, ◌<◌, ◌%◌, ℕ, zero, suc, Bool, true, false, cond, eqb, bit_xor, refl, sym, ap, ◌∙◌, arith, lit<, lit≤, inl, inr}
 use Rattle.std.proofs.lemmas.Bool.{cases_eq, eqb-true, eq-eqb, ne_eqb}
 use Rattle.vc_base.specs.Polynomial.{IsOfDegree}
+use Rattle.vc_base.proofs.Bits.{number_below-only, number_below-none}
+use Rattle.vc_base.proofs.EachNumber.{agree_below, agree_at}
 use Rattle.vc_base.proofs.Remainders.{product_below}
 use Rattle.vc_base.proofs.Products.{horner, product-horner, product_xor_second, product_zero_first, product_one, product_comm, product_assoc}
-use Rattle.aes_core.specs.Aes.{mul, byte_below, inverse}
-use Rattle.aes_core.specs.Laws.EachByte.{agree_below, agree_at}
+use Rattle.aes_core.specs.Aes.{mul, inverse}
 
 pub degree : IsOfDegree 8 0x11b
 degree = record { leads = lit≤ tt; below = lit< tt }
@@ -25,34 +26,6 @@ quick a b = horner 256 0x11b a 8 b
 
 pub mul_quick : (a b : ℕ) → a < 256 → mul a b ≡ quick a b
 mul_quick a b below = product-horner 8 0x11b a b degree below
-
--- ---- a search for a byte
-
-pick : (b : Bool) (n rest x : ℕ) → (b ≡ true → n ≡ x) → (b ≡ false → rest ≡ x) → cond b n rest ≡ x
-pick true n rest x here below = here refl
-pick false n rest x here below = below refl
-
-passes_here : (test : ℕ → Bool) (x n : ℕ) → x ≡ n → test x ≡ true → test n ≡ false → ⊥
-passes_here test x n same passes fails = let e : test x ≡ test n = ap test same in cc
-
--- a search finds what alone passes the test
-pub byte_below-only : (n : ℕ) (test : ℕ → Bool) (x : ℕ) → x < n → test x ≡ true
-    → ((c : ℕ) → c < n → test c ≡ true → c ≡ x) → byte_below n test ≡ x
-unfolding byte_below
-byte_below-only zero test x below passes only = absurd (omega arith)
-byte_below-only (suc n) test x below passes only =
-    pick (test n) n (byte_below n test) x
-    (λ e. only n (omega arith) e)
-    (λ fails. byte_below-only n test x
-    (elim (cases_eq x n) [ inl same ↦ absurd (passes_here test x n same passes fails) | inr other ↦ omega arith ])
-    passes
-    (λ c lower e. only c (omega arith) e))
-
-byte_below-none : (n : ℕ) (test : ℕ → Bool) → ((c : ℕ) → test c ≡ false) → byte_below n test ≡ 0
-unfolding byte_below
-byte_below-none zero test fails = refl
-byte_below-none (suc n) test fails =
-    pick (test n) n (byte_below n test) 0 (λ e. let no = fails n in cc) (λ _. byte_below-none n test fails)
 
 -- ---- the inverse
 
@@ -102,11 +75,11 @@ one_inverse b c x b_below c_below x_below at_x at_c =
 
 pub inverse_is_power : (b : ℕ) → b < 256 → inverse b ≡ power_254 b
 inverse_is_power zero below =
-    byte_below-none 256 (λ c. eqb (mul 0 c) 1)
+    number_below-none 256 (λ c. eqb (mul 0 c) 1)
     (λ c. ne_eqb (mul 0 c) 1 (λ e. let none = product_zero_first 8 0x11b c degree in absurd (omega (arith, none, e))))
     ∙ sym computed_zero
 inverse_is_power (suc b) below =
-    byte_below-only 256 (λ c. eqb (mul (suc b) c) 1) (power_254 (suc b)) (power_below (suc b) below)
+    number_below-only 256 (λ c. eqb (mul (suc b) c) 1) (power_254 (suc b)) (power_below (suc b) below)
     (eq-eqb (mul (suc b) (power_254 (suc b))) 1 (times_power b below))
     (λ c lower e. one_inverse (suc b) c (power_254 (suc b)) below lower (power_below (suc b) below)
     (times_power b below) (eqb-true (mul (suc b) c) 1 e))

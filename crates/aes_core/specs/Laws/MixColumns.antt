@@ -9,18 +9,18 @@ use Rattle.std.proofs.lemmas.Nat.{xor_comm, xor_of_8}
 use Rattle.vc_base.specs.Polynomial.{product, times, remainder, coefficients}
 use Rattle.vc_base.proofs.Xor.{xor_middle}
 use Rattle.aes_core.specs.Aes.{mul, column_times, row_times, mix_row, inverse_mix_row}
-use Rattle.aes_core.specs.Laws.EachByte.{agree_below, agree_at}
+use Rattle.vc_base.proofs.EachNumber.{agree_below, agree_at}
 use Rattle.aes_core.specs.Laws.Field.{mul_below, mul_xor}
 
 -- ---- sums of four
 
-abbrev quad : ℕ → ℕ → ℕ → ℕ → ℕ
+abbrev pub quad : ℕ → ℕ → ℕ → ℕ → ℕ
 quad a b c d = bit_xor (bit_xor a b) (bit_xor c d)
 
-quad-ext : (a b c d e f g h : ℕ) → a ≡ e → b ≡ f → c ≡ g → d ≡ h → quad a b c d ≡ quad e f g h
+pub quad-ext : (a b c d e f g h : ℕ) → a ≡ e → b ≡ f → c ≡ g → d ≡ h → quad a b c d ≡ quad e f g h
 quad-ext a b c d e f g h p q r s = ap₂ bit_xor (ap₂ bit_xor p q) (ap₂ bit_xor r s)
 
-quad_turn : (a b c d : ℕ) → quad a b c d ≡ quad b c d a
+pub quad_turn : (a b c d : ℕ) → quad a b c d ≡ quad b c d a
 quad_turn a b c d =
     xor_assoc a b (bit_xor c d) ∙ xor_comm a (bit_xor b (bit_xor c d))
     ∙ ap (λ (x : ℕ). bit_xor x a) (sym (xor_assoc b c d)) ∙ xor_assoc (bit_xor b c) d a
@@ -30,7 +30,7 @@ quad_xor a b c d e f g h =
     xor_middle (bit_xor a b) (bit_xor c d) (bit_xor e f) (bit_xor g h)
     ∙ ap₂ bit_xor (xor_middle a b e f) (xor_middle c d g h)
 
-quad_quad : (a b c d e f g h i j k l m n o p : ℕ)
+pub quad_quad : (a b c d e f g h i j k l m n o p : ℕ)
     → quad (quad a b c d) (quad e f g h) (quad i j k l) (quad m n o p) ≡ quad (quad a e i m) (quad b f j n) (quad c g k o) (quad d h l p)
 quad_quad a b c d e f g h i j k l m n o p =
     ap₂ bit_xor (quad_xor a b c d e f g h) (quad_xor i j k l m n o p)

@@ -6,7 +6,7 @@ use Rattle.std.proofs.Common.{◌≡◌, ◌<◌, ◌+◌, ◌*◌, ◌-◌, ◌
 use Rattle.vc_base.specs.Bytes.{IsBytes, piece}
 use Rattle.vc_base.proofs.Bytes.{IsBytes-xor, IsBytes-piece, xor_bytes_cancel}
 use Rattle.aes_core.specs.Aes.{sub_byte, inverse_sub_byte, at, column, row_times, column_times, mix_row, inverse_mix_row, sub_bytes, inverse_sub_bytes, shift_rows, inverse_shift_rows, mix_columns, inverse_mix_columns, add_round_key, rounds, cipher, inverse_rounds, inverse_cipher}
-use Rattle.aes_core.specs.Laws.Tables.{sub_byte-below, inverse_sub_byte-below, sub_undone, sub_done}
+use Rattle.aes_core.specs.Laws.Sbox.{sub_byte-below, inverse_sub_byte-below, sub_undone, sub_done}
 use Rattle.aes_core.specs.Laws.States.{of_state, state-ext, is_state}
 use Rattle.aes_core.specs.Laws.MixColumns.{mix_column_undone, mix_column_done, row_times-below}
 
@@ -21,11 +21,11 @@ unfolding inverse_sub_bytes
 inverse_sub_bytes_state s is =
     is_state (λ r c. inverse_sub_byte (at s r c)) (λ r c. inverse_sub_byte-below (at s r c) (is.each (r + 4 * c)))
 
-shift_rows_state : (s : List ℕ) → IsBytes 16 s → IsBytes 16 (shift_rows s)
+pub shift_rows_state : (s : List ℕ) → IsBytes 16 s → IsBytes 16 (shift_rows s)
 unfolding shift_rows
 shift_rows_state s is = is_state (λ r c. at s r ((c + r) % 4)) (λ r c. is.each (r + 4 * ((c + r) % 4)))
 
-inverse_shift_rows_state : (s : List ℕ) → IsBytes 16 s → IsBytes 16 (inverse_shift_rows s)
+pub inverse_shift_rows_state : (s : List ℕ) → IsBytes 16 s → IsBytes 16 (inverse_shift_rows s)
 unfolding inverse_shift_rows
 inverse_shift_rows_state s is = is_state (λ r c. at s r ((c + 4 - r) % 4)) (λ r c. is.each (r + 4 * ((c + 4 - r) % 4)))
 

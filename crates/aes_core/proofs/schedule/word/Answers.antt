@@ -1,5 +1,5 @@
 use Rattle.std.proofs.Common.{◌/◌, arith, length}
-use Rattle.aes_core.proofs.Pieces.{chunk_is_piece}
+use Rattle.vc_base.proofs.Chunks.{chunk_is_piece}
 use Rattle.aes_core.proofs.schedule.word.Goals as goal
 
 pub returns : goal.returns

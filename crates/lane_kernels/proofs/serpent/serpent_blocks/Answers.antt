@@ -2,7 +2,7 @@ use Rattle.std.proofs.Common.{◌+◌, ◌-◌, ◌*◌, length, refl, ap, ◌�
 use Rattle.cipher_base.proofs.Loops.{starts, goes_on, ends}
 use Rattle.lane_kernels.specs.SerpentRounds.{cipher}
 use Rattle.lane_kernels.proofs.Blocks.{cipher-bytes}
-use Rattle.lane_kernels.proofs.Groups.{regrouped, group_more}
+use Rattle.cipher_base.proofs.ByGroups.{regrouped, group_more}
 use Rattle.lane_kernels.proofs.serpent.serpent_blocks.Goals as goal
 
 pub loop-i-init : goal.loop-i-init
