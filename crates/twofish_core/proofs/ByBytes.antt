@@ -1,17 +1,18 @@
--- The function h, a byte at a time.
+-- The functions h and g, a byte at a time.
 --
--- Up to the matrix MDS no byte of the word meets another, so each layer goes by bytes. MDS times a
--- column is the sum of its own columns, each times one byte, and words add up as their bytes do.
-use Rattle.std.proofs.Common.{◌≡◌, List, [], ◌∷◌, ℕ, map, get_or, slice_index, bit_xor, refl, sym, ap, ap₂, ◌∙◌, lit<, lit≤, w32}
+-- Up to the matrix MDS no byte of the word affects another, so each layer goes by bytes. MDS times a
+-- column is the sum of its own columns, each times one byte, and words add up as their bytes do. The
+-- sum's order doesn't matter: sums are compared bit by bit.
+use Rattle.std.proofs.Common.{◌≡◌, List, [], ◌∷◌, ℕ, map, slice_index, bit_xor, refl, sym, ap, ap₂, ◌∙◌, subst, lit<, lit≤, w32, ◌<◌}
 use Rattle.std.specs.Int.{to_le_bytes}
 use Rattle.std.specs.Int.Bits.{xor_assoc, xor_zero_r}
 use Rattle.vc_base.specs.Bytes.{IsBytes, xor_bytes, from_bytes, to_bytes}
 use Rattle.vc_base.specs.Polynomial.{IsOfDegree, product}
-use Rattle.vc_base.proofs.Bytes.{AreBytes-nil, AreBytes-cons, is_bytes, IsBytes-xor, from_bytes-xor}
+use Rattle.vc_base.proofs.Bytes.{AreBytes-nil, AreBytes-cons, AreBytes-to_bytes, is_bytes, IsBytes-xor, from_bytes-xor}
 use Rattle.vc_base.proofs.Remainders.{product_below}
 use Rattle.vc_base.proofs.Words.{to_le_bytes_4}
-use Rattle.twofish_core.specs.Twofish.{q0, q1, row_times, mds, mds_times, h}
-use Rattle.twofish_core.specs.Columns.{mds_column, chained}
+use Rattle.twofish_core.specs.Twofish.{row_times, mds, mds_times, h, g_under}
+use Rattle.twofish_core.specs.Laws.Columns.{mds_column, across, added_0, added_1, added_2, added_3, reversed, AreTables}
 use Rattle.twofish_core.specs.Laws.Words.{same_four}
 
 -- ---- MDS by its columns
@@ -84,36 +85,34 @@ mds_by_columns a b c d =
 
 -- ---- the layers by bytes
 
--- byte i of four words
-abbrev pub across : ℕ → List ℕ → List ℕ → List ℕ → List ℕ → List ℕ
-across i l m n o = get_or l i 0 ∷ get_or m i 0 ∷ get_or n i 0 ∷ get_or o i 0 ∷ []
+-- what the four bytes x of a word add to h under the words l
+abbrev pub by_bytes : List ℕ → List ℕ → ℕ
+by_bytes l x =
+    bit_xor (bit_xor (added_0 l (slice_index x 0)) (added_1 l (slice_index x 1)))
+    (bit_xor (added_2 l (slice_index x 2)) (added_3 l (slice_index x 3)))
 
--- what the code makes of the bytes of a word and of the four words of the list
-abbrev pub by_bytes : List ℕ → List ℕ → List ℕ → List ℕ → List ℕ → ℕ
-by_bytes x l m n o =
-    bit_xor
-    (bit_xor (mds_column 0 (q1 (chained q1 q1 q0 q0 (across 0 l m n o) (get_or x 0 0))))
-    (mds_column 1 (q0 (chained q0 q1 q1 q0 (across 1 l m n o) (get_or x 1 0)))))
-    (bit_xor (mds_column 2 (q1 (chained q0 q0 q0 q1 (across 2 l m n o) (get_or x 2 0))))
-    (mds_column 3 (q0 (chained q1 q0 q1 q1 (across 3 l m n o) (get_or x 3 0)))))
-
-of_bytes : (x : ℕ) (l : List ℕ)
-    → by_bytes (to_bytes 4 x) (to_bytes 4 (slice_index l 0)) (to_bytes 4 (slice_index l 1))
-    (to_bytes 4 (slice_index l 2)) (to_bytes 4 (slice_index l 3))
-    ≡ h x l
-unfolding h to_bytes xor_bytes
+of_bytes : (x : ℕ) (l : List ℕ) → by_bytes l (to_bytes 4 x) ≡ h x l
+unfolding h to_bytes xor_bytes across
 of_bytes x l = mds_by_columns _ _ _ _
 
-pub h_by_bytes : (x : ℕ) (l xs ls ms ns os : List ℕ) → xs ≡ to_le_bytes w32 x
-    → ls ≡ to_le_bytes w32 (slice_index l 0) → ms ≡ to_le_bytes w32 (slice_index l 1)
-    → ns ≡ to_le_bytes w32 (slice_index l 2) → os ≡ to_le_bytes w32 (slice_index l 3)
-    → by_bytes xs ls ms ns os ≡ h x l
-h_by_bytes x l xs ls ms ns os x_is l_is m_is n_is o_is =
-    let bytes : (i : ℕ) → to_le_bytes w32 (slice_index l i) ≡ to_bytes 4 (slice_index l i)
-    = λ i. to_le_bytes_4 (slice_index l i) in
-    let x_bytes : xs ≡ to_bytes 4 x = x_is ∙ to_le_bytes_4 x in
-    let l_bytes : ls ≡ to_bytes 4 (slice_index l 0) = l_is ∙ bytes 0 in
-    let m_bytes : ms ≡ to_bytes 4 (slice_index l 1) = m_is ∙ bytes 1 in
-    let n_bytes : ns ≡ to_bytes 4 (slice_index l 2) = n_is ∙ bytes 2 in
-    let o_bytes : os ≡ to_bytes 4 (slice_index l 3) = o_is ∙ bytes 3 in
-    rw (x_bytes, l_bytes, m_bytes, n_bytes, o_bytes) (of_bytes x l)
+pub h_by_bytes : (x : ℕ) (l xs : List ℕ) → xs ≡ to_le_bytes w32 x → by_bytes l xs ≡ h x l
+h_by_bytes x l xs x_is = ap (by_bytes l) (x_is ∙ to_le_bytes_4 x) ∙ of_bytes x l
+
+-- ---- by the tables of g
+
+byte_below : (x i : ℕ) (xs : List ℕ) → xs ≡ to_le_bytes w32 x → slice_index xs i < 256
+byte_below x i xs x_is =
+    subst (λ (ys : List ℕ). slice_index ys i < 256) (sym (x_is ∙ to_le_bytes_4 x))
+    ((AreBytes-to_bytes 4 x).each i)
+
+pub g_by_tables : (x : ℕ) (s t0 t1 t2 t3 xs : List ℕ) → AreTables s t0 t1 t2 t3
+    → xs ≡ to_le_bytes w32 x
+    → bit_xor (bit_xor (slice_index t0 (slice_index xs 0)) (slice_index t1 (slice_index xs 1)))
+    (bit_xor (slice_index t2 (slice_index xs 2)) (slice_index t3 (slice_index xs 3)))
+    ≡ g_under s x
+g_by_tables x s t0 t1 t2 t3 xs tables x_is =
+    let below : (i : ℕ) → slice_index xs i < 256 = λ i. byte_below x i xs x_is in
+    ap₂ bit_xor
+    (ap₂ bit_xor (tables.of_byte_0.at _ (below 0)) (tables.of_byte_1.at _ (below 1)))
+    (ap₂ bit_xor (tables.of_byte_2.at _ (below 2)) (tables.of_byte_3.at _ (below 3)))
+    ∙ h_by_bytes x (reversed s) xs x_is

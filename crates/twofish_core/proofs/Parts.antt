@@ -1,23 +1,9 @@
--- Pieces of a list as the code takes them, and rows times columns from the last product on.
-use Rattle.std.proofs.Common.{◌≡◌, ◌<◌, ◌≤◌, ◌+◌, ◌*◌, List, [], ◌∷◌, ℕ, zero, suc, length, take, drop, get_or, bit_xor, refl, sym, ap, ap₂, ◌∙◌, arith}
-use Rattle.std.proofs.lemmas.List.{drop-drop, drop_all}
+-- Rows times columns, from the last product on.
+use Rattle.std.proofs.Common.{◌≡◌, ◌<◌, ◌≤◌, List, ◌∷◌, ℕ, suc, length, drop, get_or, bit_xor, refl, sym, ap, ap₂, ◌∙◌}
+use Rattle.std.proofs.lemmas.List.{drop_all}
 use Rattle.std.proofs.Math.Seq.{drop-cons}
-use Rattle.std.specs.Simd.{first_chunks}
-use Rattle.vc_base.specs.Bytes.{piece}
 use Rattle.vc_base.specs.Polynomial.{product}
 use Rattle.twofish_core.specs.Twofish.{row_times}
-
--- the i-th of the first k chunks of n elements
-pub chunk_is_piece : (n k : ℕ) (xs : List ℕ) (i : ℕ) → i < k
-    → get_or (first_chunks n k xs) i [] ≡ piece n i xs
-chunk_is_piece n zero xs i below = absurd (omega arith)
-chunk_is_piece n (suc k) xs zero below =
-    let none : 0 ≡ n * 0 = omega arith in
-    ap (λ (j : ℕ). take n (drop j xs)) none
-chunk_is_piece n (suc k) xs (suc i) below =
-    let after : n + n * i ≡ n * suc i = omega arith in
-    chunk_is_piece n k (drop n xs) i (omega arith)
-    ∙ ap (take n) (drop-drop (n * i) n xs ∙ ap (λ (j : ℕ). drop j xs) after)
 
 -- past the last product nothing is added
 pub row_times-none : (m : ℕ) (row x : List ℕ) (i : ℕ) → length row ≤ i

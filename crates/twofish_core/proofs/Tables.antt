@@ -4,10 +4,10 @@ use Rattle.std.proofs.Common.{◌≡◌, ◌<◌, ℕ, true, refl, get_or}
 use Rattle.vc_base.specs.Bytes.{from_bytes}
 use Rattle.vc_base.specs.Polynomial.{product, times, remainder, coefficients}
 use Rattle.twofish_core.specs.Twofish.{permuted, q0, q1}
-use Rattle.twofish_core.specs.Columns.{mds_column}
+use Rattle.twofish_core.specs.Laws.Columns.{mds_column}
 use Rattle.twofish_core.specs.declared.permutations.TheConstants.{Q0, Q1}
 use Rattle.twofish_core.specs.declared.columns.TheConstants.{COLUMN_0, COLUMN_1, COLUMN_2, COLUMN_3}
-use Rattle.twofish_core.proofs.EachByte.{agree_below, agree_at}
+use Rattle.vc_base.proofs.EachNumber.{agree_below, agree_at}
 
 -- ---- the permutations
 

@@ -1,7 +1,7 @@
 -- Twofish with keys of 256 bits (B. Schneier and others, "Twofish: A 128-Bit Block Cipher", 1998),
 -- in the submission's terms and with its section numbers.
 --
--- A word is a number below 2^32; its bytes stand with the lowest first (4). A block has 16 bytes.
+-- A word is a number below 2^32, and its lowest byte is its first (4). A block has 16 bytes.
 --
 -- q0 x, q1 x          the two fixed permutations of a byte
 -- h x l               the function h of a word x under a list l of four words
@@ -20,16 +20,16 @@ use Rattle.vc_base.specs.Polynomial.{product}
 
 -- ---- the permutations q0 and q1 (4.3.5): a byte is two nibbles
 
--- a nibble turned right by one bit
-abbrev pub turned_right : ℕ → ℕ
-turned_right b = b / 2 + 8 * (b % 2)
+-- a nibble rotated right by one bit
+abbrev pub rotated_right : ℕ → ℕ
+rotated_right b = b / 2 + 8 * (b % 2)
 
 -- two nibbles are mixed, and each becomes an entry of a table
 abbrev pub high_mixed : ℕ → ℕ → ℕ
 high_mixed a b = bit_xor a b
 
 abbrev pub low_mixed : ℕ → ℕ → ℕ
-low_mixed a b = bit_xor (bit_xor a (turned_right b)) (8 * a % 16)
+low_mixed a b = bit_xor (bit_xor a (rotated_right b)) (8 * a % 16)
 
 -- twice, by the tables t0 and t1 and then by t2 and t3; at last the nibbles change places
 unfoldable pub permuted : List ℕ → List ℕ → List ℕ → List ℕ → ℕ → ℕ
@@ -184,7 +184,7 @@ feistel g k r s =
     ∷ bit_xor (rotate_left w32 (slice_index s 3) 1) (f1 g k r x y)
     ∷ x ∷ y ∷ []
 
--- the four words that round r began with, from those that it ended with
+-- the four words before round r, from those after it
 unfoldable pub inverse_feistel : (ℕ → ℕ) → List ℕ → ℕ → List ℕ → List ℕ
 inverse_feistel g k r s =
     let x : ℕ = slice_index s 2 in

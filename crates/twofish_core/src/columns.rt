@@ -4,7 +4,7 @@
 //! of column i of the matrix by what the last permutation at byte i makes of it.
 ghost use Rattle.std.specs.Prelude.{◌≡◌};
 ghost use Rattle.twofish_core.specs.Twofish.{q0, q1};
-ghost use Rattle.twofish_core.specs.Columns.{mds_column};
+ghost use Rattle.twofish_core.specs.Laws.Columns.{mds_column};
 
 static COLUMN_0: [u32; 256] = [
     0xbcbc3275, 0xecec21f3, 0x202043c6, 0xb3b3c9f4, 0xdada03db, 0x02028b7b, 0xe2e22bfb, 0x9e9efac8,

@@ -3,6 +3,7 @@ ghost use Rattle.std.specs.Prelude.{◌≡◌, ◌+◌, ◌*◌, ◌≤◌, leng
 ghost use Rattle.twofish_core.specs.Twofish.{word_of, words_of, block_of};
 
 /// Word i of a list of bytes.
+#[inline(always)]
 pub fn word_of(bytes: &[u8], i: usize) -> u32
     requires { 4 * i + 4 ≤ length bytes.now }
     ensures { result ≡ word_of bytes.now i }
@@ -11,6 +12,7 @@ pub fn word_of(bytes: &[u8], i: usize) -> u32
 }
 
 /// The four words of a block.
+#[inline(always)]
 pub fn words_of(block: &[u8; 16]) -> [u32; 4]
     ensures { result ≡ words_of block.now }
 {
@@ -23,6 +25,7 @@ pub fn words_of(block: &[u8; 16]) -> [u32; 4]
 }
 
 /// The block of four words.
+#[inline(always)]
 pub fn block_of(s: [u32; 4]) -> [u8; 16]
     ensures { result ≡ block_of s }
 {

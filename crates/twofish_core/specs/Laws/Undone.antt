@@ -1,7 +1,7 @@
 -- The cipher and its inverse undo each other, and keep blocks blocks.
 --
 -- A round is undone by its inverse, whatever g is. After n rounds the inverse cipher has the words
--- that round 16 - n began with, and the other way round.
+-- before round 16 - n, and the other way round.
 use Rattle.std.proofs.Common.{◌≡◌, ◌<◌, ◌+◌, ◌-◌, ◌^◌, List, ℕ, zero, suc, slice_index, bit_xor, refl, sym, ap, ◌∙◌, arith, w32}
 use Rattle.std.specs.Int.{rotate_left, rotate_right}
 use Rattle.vc_base.specs.Bytes.{IsBytes}
@@ -64,16 +64,16 @@ inverse_feistel_words f k r s is =
     (xor_word _ _ (left_word _ (is.each 0)) (f0_word f k r _ _))
     (right_word _ (xor_word _ _ (is.each 1) (f1_word f k r _ _)))
 
--- a word that is added and turned right comes back, and so does one that is turned left and added
-added_turned : (a t : ℕ) → a < 2 ^ 32 → t < 2 ^ 32
+-- a word comes back that is added to and rotated right, and one that is rotated left and added to
+added_rotated : (a t : ℕ) → a < 2 ^ 32 → t < 2 ^ 32
     → bit_xor (rotate_left w32 (rotate_right w32 (bit_xor a t) 1) 1) t ≡ a
-added_turned a t is_a is_t =
+added_rotated a t is_a is_t =
     ap (λ (x : ℕ). bit_xor x t) (left_of_right (bit_xor a t) (xor_word a t is_a is_t))
     ∙ xor_cancel a t
 
-turned_added : (a t : ℕ) → a < 2 ^ 32
+rotated_added : (a t : ℕ) → a < 2 ^ 32
     → rotate_right w32 (bit_xor (bit_xor (rotate_left w32 a 1) t) t) 1 ≡ a
-turned_added a t is_a =
+rotated_added a t is_a =
     ap (λ (x : ℕ). rotate_right w32 x 1) (xor_cancel (rotate_left w32 a 1) t) ∙ right_of_left a is_a
 
 feistel_undone : (f : ℕ → ℕ) (k : List ℕ) (r : ℕ) (s : List ℕ) → IsWords 4 s
@@ -83,8 +83,8 @@ feistel_undone f k r s is =
     let x : ℕ = slice_index s 0 in
     let y : ℕ = slice_index s 1 in
     same_four _ _ _ _ _ _ _ _ refl refl
-    (added_turned (slice_index s 2) (f0 f k r x y) (is.each 2) (f0_word f k r x y))
-    (turned_added (slice_index s 3) (f1 f k r x y) (is.each 3))
+    (added_rotated (slice_index s 2) (f0 f k r x y) (is.each 2) (f0_word f k r x y))
+    (rotated_added (slice_index s 3) (f1 f k r x y) (is.each 3))
     ∙ sym (four s is.count)
 
 feistel_done : (f : ℕ → ℕ) (k : List ℕ) (r : ℕ) (s : List ℕ) → IsWords 4 s
@@ -94,8 +94,8 @@ feistel_done f k r s is =
     let x : ℕ = slice_index s 2 in
     let y : ℕ = slice_index s 3 in
     same_four _ _ _ _ _ _ _ _
-    (turned_added (slice_index s 0) (f0 f k r x y) (is.each 0))
-    (added_turned (slice_index s 1) (f1 f k r x y) (is.each 1) (f1_word f k r x y))
+    (rotated_added (slice_index s 0) (f0 f k r x y) (is.each 0))
+    (added_rotated (slice_index s 1) (f1 f k r x y) (is.each 1) (f1_word f k r x y))
     refl refl
     ∙ sym (four s is.count)
 
@@ -113,7 +113,7 @@ inverse_rounds_words f k s zero is = is
 inverse_rounds_words f k s (suc n) is =
     inverse_feistel_words f k (15 - n) (inverse_rounds f k s n) (inverse_rounds_words f k s n is)
 
--- back to the words that round m began with
+-- back to the words before round m
 back_through : (f : ℕ → ℕ) (k s : List ℕ) (n m : ℕ) → IsWords 4 s → n + m ≡ 16
     → inverse_rounds f k (rounds f k s 16) n ≡ rounds f k s m
 unfolding inverse_rounds
@@ -152,7 +152,7 @@ pub inverse_cipher_is_block : (f : ℕ → ℕ) (k b : List ℕ) → IsBytes 16 
 unfolding inverse_cipher
 inverse_cipher_is_block f k b = block_of_is_block _
 
--- four words, written as a block with the words of K_j on and read again
+-- four words with K_j to K_(j + 3), written as a block, read again and with the same words again
 unwhitened : (k : List ℕ) (j : ℕ) (s : List ℕ) → IsWords 40 k → IsWords 4 s
     → whitened k j (words_of (block_of (whitened k j s))) ≡ s
 unwhitened k j s key is =

@@ -40,7 +40,7 @@ pub are_four : (a b c d : ℕ) → a < 2 ^ 32 → b < 2 ^ 32 → c < 2 ^ 32 → 
 are_four a b c d is_a is_b is_c is_d =
     record { count = refl; each = each_of_four a b c d is_a is_b is_c is_d }
 
--- ---- exclusive ors and rotations of words
+-- ---- XOR and rotations of words
 
 pub xor_word : (a b : ℕ) → a < 2 ^ 32 → b < 2 ^ 32 → bit_xor a b < 2 ^ 32
 xor_word a b is_a is_b = xor_lt 32 a b is_a is_b

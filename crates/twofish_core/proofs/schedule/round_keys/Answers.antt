@@ -1,7 +1,6 @@
 use Rattle.std.proofs.Common.{◌*◌, ◌∙◌, arith, refl}
-use Rattle.cipher_base.proofs.Loops.{length-put_mid, filled_none, filled_more}
+use Rattle.cipher_base.proofs.Loops.{length-put_mid, filled_none, filled_more, filled_all}
 use Rattle.twofish_core.specs.Twofish.{key_pair, round_keys}
-use Rattle.twofish_core.proofs.Steps.{filled_whole}
 use Rattle.twofish_core.proofs.schedule.round_keys.Goals as goal
 
 pub loop-i-init : goal.loop-i-init
@@ -19,5 +18,5 @@ loop-i-preserved c =
 pub returns : goal.returns
 unfolding round_keys
 returns c =
-    filled_whole 2 c.loop-i.i 20 (key_pair c.args.key.now) c.loop-i.keys c.loop-i.invariant.1
+    filled_all 2 c.loop-i.i 20 (key_pair c.args.key.now) c.loop-i.keys c.loop-i.invariant.1
     (omega arith) c.loop-i.invariant.0

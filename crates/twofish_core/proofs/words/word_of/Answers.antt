@@ -2,7 +2,7 @@ use Rattle.std.proofs.Common.{◌/◌, length, ◌∙◌, arith}
 use Rattle.vc_base.specs.Bytes.{piece}
 use Rattle.vc_base.proofs.Pieces.{length-piece}
 use Rattle.vc_base.proofs.Words.{from_le_bytes_4}
-use Rattle.twofish_core.proofs.Parts.{chunk_is_piece}
+use Rattle.vc_base.proofs.Chunks.{chunk_is_piece}
 use Rattle.twofish_core.proofs.words.word_of.Goals as goal
 
 pub returns : goal.returns

@@ -2,8 +2,8 @@ use Rattle.std.proofs.Common.{◌≡◌, ◌<◌, ◌/◌, ℕ, List, [], length
 use Rattle.vc_base.specs.Bytes.{from_bytes, piece}
 use Rattle.twofish_core.specs.Twofish.{rs_times, key_word, key_words}
 use Rattle.twofish_core.specs.Laws.Words.{same_four}
-use Rattle.twofish_core.proofs.Parts.{chunk_is_piece}
-use Rattle.twofish_core.proofs.g.Boxes.new.Goals as goal
+use Rattle.vc_base.proofs.Chunks.{chunk_is_piece}
+use Rattle.twofish_core.proofs.g.words_of_key.Goals as goal
 
 pub returns : goal.returns
 unfolding key_words

@@ -1,0 +1,9 @@
+use Rattle.std.proofs.Common.{◌≡◌, ◌*◌}
+use Rattle.twofish_core.specs.Twofish.{g_under, rounds, whitened, words_of}
+use Rattle.twofish_core.proofs.blocks.encipher_two.Given as goal
+
+abbrev pub invariant-loop-i : goal.invariant-loop-i
+invariant-loop-i l = record {
+  first : l.s ≡ rounds (g_under l.boxes.words) l.keys (whitened l.keys 0 (words_of l.fn.p)) (2 * l.i);
+  second : l.t ≡ rounds (g_under l.boxes.words) l.keys (whitened l.keys 0 (words_of l.fn.q)) (2 * l.i);
+}

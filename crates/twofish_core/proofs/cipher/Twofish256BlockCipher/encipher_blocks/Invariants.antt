@@ -1,0 +1,12 @@
+use Rattle.std.proofs.Common.{◌*◌}
+use Rattle.cipher_base.proofs.Loops.{Done}
+use Rattle.twofish_core.specs.Twofish.{g_under, cipher}
+use Rattle.twofish_core.proofs.cipher.Twofish256BlockCipher.encipher_blocks.Given as goal
+
+abbrev pub invariant-loop-i : goal.invariant-loop-i
+invariant-loop-i l =
+    Done 16 (2 * l.i) (λ _ b. cipher (g_under l.self.boxes.words) l.self.keys b) l.fn.blocks l.blocks
+
+abbrev pub invariant-loop-j : goal.invariant-loop-j
+invariant-loop-j l =
+    Done 16 l.j (λ _ b. cipher (g_under l.self.boxes.words) l.self.keys b) l.fn.blocks l.blocks
