@@ -2,8 +2,8 @@
 --
 -- A front of what is to be written is all that any stop leaves: parts that were written whole, then a front of the
 -- part that was not.
-use Rattle.std.proofs.Common.{◌≡◌, ℕ, ◌+◌, ◌-◌, List, ◌++◌, length, take, drop, min, Option, Some, None, append_assoc, refl, sym, ap, ◌∙◌, subst, arith}
-use Rattle.std.specs.Prelude.{IfSome}
+use Rattle.std.proofs.Common.{◌≡◌, ℕ, ◌+◌, ◌-◌, List, ◌++◌, length, take, drop, min, Option, Some, None, Result, Ok, Err, append_assoc, refl, sym, ap, ◌∙◌, subst, arith}
+use Rattle.std.specs.Prelude.{IfSome, OnOk}
 use Rattle.std.proofs.Math.Seq.{take-add}
 use Rattle.std.proofs.lemmas.List.{append-nil, take_rest, take_all, take_at, drop_at, take_min, take-append-le}
 use Rattle.vc_outside.specs.Told.{Grows, GrowsByFront}
@@ -53,8 +53,7 @@ pub told : (image : Option (List ℕ)) (made : List ℕ → List ℕ) (xs : List
 told None made xs P e h = tt
 told (Some b) made xs P e h = subst P e h
 
--- nothing written is a front of what the image makes
-pub nothing_told : (image : Option (List ℕ)) (a : Option (List ℕ)) (made : List ℕ → List ℕ)
-    → IfSome image (λ b. GrowsByFront a a (made b))
-nothing_told None a made = tt
-nothing_told (Some b) a made = front_of_none a (made b)
+-- what follows from a fact of an Ok
+pub on_ok : {T E : Type 0} (r : Result T E) (P Q : Type 0) → (P → Q) → OnOk r P → OnOk r Q
+on_ok (Ok x) P Q f h = f h
+on_ok (Err e) P Q f h = tt

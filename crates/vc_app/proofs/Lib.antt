@@ -4,11 +4,7 @@ pub mod Growth
 pub mod Units
 -- the plain units that were written, part by part
 pub mod Parts
--- the opened volume is the asked one
-pub mod Asked
--- what the statuses of one step say of the whole
-pub mod Statuses
--- what the words ask
-pub mod Tasks
--- the opened header is the asked one
-pub mod Shown
+-- how a call keeps a promise, by the way in which it ends
+pub mod PromiseIsKept
+-- from the arguments to the promise that is kept
+pub mod CommandIsChosen

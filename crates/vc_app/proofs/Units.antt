@@ -51,8 +51,3 @@ units-add dec b u i m =
     ∙ ap (λ (l : List ℕ). plain_units dec b u i ++ l)
     (joined_same (λ j. dec (u + (i + j)) (piece 512 (u + (i + j)) b)) (λ j. dec (u + i + j) (piece 512 (u + i + j) b)) m
     (λ j below. ap (λ (k : ℕ). dec k (piece 512 k b)) (sym (add_assoc u i j))))
-
--- equal ciphers have equal units
-pub units_same : (dec dec' : ℕ → List ℕ → List ℕ) (b : List ℕ) (u n : ℕ) → ((k : ℕ) (x : List ℕ) → dec k x ≡ dec' k x)
-    → plain_units dec b u n ≡ plain_units dec' b u n
-units_same dec dec' b u n same = joined_same _ _ n (λ j below. same (u + j) (piece 512 (u + j) b))

@@ -1,8 +1,14 @@
 -- the exit statuses
 pub mod Status
--- what `cat` is to write
+-- what a promise is, and what it means
+pub mod Promise
+-- what a password opens
+pub mod Access
+-- what `cat` promises
 pub mod Cat
--- what `info` is to write
+-- what `info` promises
 pub mod Info
--- what each command does, and when it is refused
+-- what `format` promises
+pub mod Format
+-- the commands, each with its promise
 pub mod Commands

@@ -1,7 +1,23 @@
--- The exit statuses.
-use Rattle.std.specs.Prelude.{ℕ, ⊤}
+-- The exit statuses, and the one of each cause.
+--
+-- code_of s                   the program's exit status
+-- IsRefusal s                 a refusal, which leaves everything as it was
+-- IsAfterWork s               the work on the container is whole
+-- IsOfPlain s                 a status of a command that serves no client
+-- words_status, .. e          the status of an error; ended f r is that of a result, with f for its errors
+use Rattle.std.specs.Prelude.{◌≡◌, ◌⊎◌, ℕ, ⊤, Result, Ok, Err}
 use Rattle.header_try.specs.declared.open_error.OpenError.{OpenError}
-use Rattle.header_try.specs.declared.open_error.OpenError.TheVariants as OpenErrors
+use Rattle.header_try.specs.declared.open_error.OpenError.TheVariants as opening
+use Rattle.cmd_words.specs.declared.error.WordsError.{WordsError}
+use Rattle.cmd_words.specs.declared.error.WordsError.TheVariants as reading
+use Rattle.vc_app.specs.declared.counts.WorkError.{WorkError}
+use Rattle.vc_app.specs.declared.counts.WorkError.TheVariants as work
+use Rattle.vc_app.specs.declared.commands.cat.CatError.{CatError}
+use Rattle.vc_app.specs.declared.commands.cat.CatError.TheVariants as cat
+use Rattle.vc_app.specs.declared.commands.info.InfoError.{InfoError}
+use Rattle.vc_app.specs.declared.commands.info.InfoError.TheVariants as info
+use Rattle.vc_app.specs.declared.commands.format.FormatError.{FormatError}
+use Rattle.vc_app.specs.declared.commands.format.FormatError.TheVariants as format
 use Rattle.vc_app.specs.declared.status.Status.{Status}
 use Rattle.vc_app.specs.declared.status.Status.TheVariants.{Done, Usage, NoHeader, NoHidden, Length, BadSize, DiskFault, OutFault, NoMemory, ClientCut, ClientMagic, ClientFault}
 
@@ -19,174 +35,53 @@ code_of (ClientCut client) = 10
 code_of (ClientMagic client bytes) = 11
 code_of (ClientFault client) = 12
 
--- why opening failed
-abbrev pub status_of : OpenError → Status
-status_of (OpenErrors.Length len) = Length len
-status_of OpenErrors.NoHeader = NoHeader
-status_of OpenErrors.ReadFault = DiskFault
-status_of OpenErrors.NoMemory = NoMemory
-
--- what the writing of sectors may answer
-abbrev pub IsWriting : Status → Type 0
-IsWriting Done = ⊤
-IsWriting Usage = ⊥
-IsWriting NoHeader = ⊥
-IsWriting NoHidden = ⊥
-IsWriting (Length len) = ⊥
-IsWriting BadSize = ⊥
-IsWriting DiskFault = ⊤
-IsWriting OutFault = ⊤
-IsWriting NoMemory = ⊤
-IsWriting (ClientCut client) = ⊥
-IsWriting (ClientMagic client bytes) = ⊥
-IsWriting (ClientFault client) = ⊥
-
--- what `cat` may answer
-abbrev pub IsOfCat : Status → Type 0
-IsOfCat Done = ⊤
-IsOfCat Usage = ⊥
-IsOfCat NoHeader = ⊤
-IsOfCat NoHidden = ⊥
-IsOfCat (Length len) = ⊤
-IsOfCat BadSize = ⊤
-IsOfCat DiskFault = ⊤
-IsOfCat OutFault = ⊤
-IsOfCat NoMemory = ⊤
-IsOfCat (ClientCut client) = ⊥
-IsOfCat (ClientMagic client bytes) = ⊥
-IsOfCat (ClientFault client) = ⊥
-
--- what the top call may answer
-abbrev pub IsOfPlain : Status → Type 0
-IsOfPlain Done = ⊤
-IsOfPlain Usage = ⊤
-IsOfPlain NoHeader = ⊤
-IsOfPlain NoHidden = ⊥
-IsOfPlain (Length len) = ⊤
-IsOfPlain BadSize = ⊤
-IsOfPlain DiskFault = ⊤
-IsOfPlain OutFault = ⊤
-IsOfPlain NoMemory = ⊤
-IsOfPlain (ClientCut client) = ⊥
-IsOfPlain (ClientMagic client bytes) = ⊥
-IsOfPlain (ClientFault client) = ⊥
-
--- what a writing to the output may answer
-abbrev pub IsOfOutput : Status → Type 0
-IsOfOutput Done = ⊤
-IsOfOutput Usage = ⊥
-IsOfOutput NoHeader = ⊥
-IsOfOutput NoHidden = ⊥
-IsOfOutput (Length len) = ⊥
-IsOfOutput BadSize = ⊥
-IsOfOutput DiskFault = ⊥
-IsOfOutput OutFault = ⊤
-IsOfOutput NoMemory = ⊤
-IsOfOutput (ClientCut client) = ⊥
-IsOfOutput (ClientMagic client bytes) = ⊥
-IsOfOutput (ClientFault client) = ⊥
-
--- what `info` may answer
-abbrev pub IsOfInfo : Status → Type 0
-IsOfInfo Done = ⊤
-IsOfInfo Usage = ⊥
-IsOfInfo NoHeader = ⊤
-IsOfInfo NoHidden = ⊥
-IsOfInfo (Length len) = ⊤
-IsOfInfo BadSize = ⊥
-IsOfInfo DiskFault = ⊤
-IsOfInfo OutFault = ⊤
-IsOfInfo NoMemory = ⊤
-IsOfInfo (ClientCut client) = ⊥
-IsOfInfo (ClientMagic client bytes) = ⊥
-IsOfInfo (ClientFault client) = ⊥
-
--- what `format` may answer
-abbrev pub IsOfFormat : Status → Type 0
-IsOfFormat Done = ⊤
-IsOfFormat Usage = ⊥
-IsOfFormat NoHeader = ⊥
-IsOfFormat NoHidden = ⊥
-IsOfFormat (Length len) = ⊥
-IsOfFormat BadSize = ⊤
-IsOfFormat DiskFault = ⊤
-IsOfFormat OutFault = ⊤
-IsOfFormat NoMemory = ⊤
-IsOfFormat (ClientCut client) = ⊥
-IsOfFormat (ClientMagic client bytes) = ⊥
-IsOfFormat (ClientFault client) = ⊥
-
--- what a task may answer
-abbrev pub IsOfTask : Status → Type 0
-IsOfTask Done = ⊤
-IsOfTask Usage = ⊥
-IsOfTask NoHeader = ⊤
-IsOfTask NoHidden = ⊥
-IsOfTask (Length len) = ⊤
-IsOfTask BadSize = ⊤
-IsOfTask DiskFault = ⊤
-IsOfTask OutFault = ⊤
-IsOfTask NoMemory = ⊤
-IsOfTask (ClientCut client) = ⊥
-IsOfTask (ClientMagic client bytes) = ⊥
-IsOfTask (ClientFault client) = ⊥
-
--- the work on the container is whole
-abbrev pub IsAfterWork : Status → Type 0
-IsAfterWork Done = ⊤
-IsAfterWork Usage = ⊥
-IsAfterWork NoHeader = ⊥
-IsAfterWork NoHidden = ⊥
-IsAfterWork (Length len) = ⊥
-IsAfterWork BadSize = ⊥
-IsAfterWork DiskFault = ⊥
-IsAfterWork OutFault = ⊤
-IsAfterWork NoMemory = ⊥
-IsAfterWork (ClientCut client) = ⊥
-IsAfterWork (ClientMagic client bytes) = ⊥
-IsAfterWork (ClientFault client) = ⊥
-
--- a refusal, which leaves all as it was
 abbrev pub IsRefusal : Status → Type 0
-IsRefusal Done = ⊥
 IsRefusal Usage = ⊤
 IsRefusal NoHeader = ⊤
 IsRefusal NoHidden = ⊤
 IsRefusal (Length len) = ⊤
 IsRefusal BadSize = ⊤
-IsRefusal DiskFault = ⊥
-IsRefusal OutFault = ⊥
-IsRefusal NoMemory = ⊥
-IsRefusal (ClientCut client) = ⊥
-IsRefusal (ClientMagic client bytes) = ⊥
-IsRefusal (ClientFault client) = ⊥
+IsRefusal _ = ⊥
 
--- what the counts of faults may say at the end
-abbrev pub IsSettled : Status → Type 0
-IsSettled Done = ⊤
-IsSettled Usage = ⊥
-IsSettled NoHeader = ⊥
-IsSettled NoHidden = ⊥
-IsSettled (Length len) = ⊥
-IsSettled BadSize = ⊥
-IsSettled DiskFault = ⊤
-IsSettled OutFault = ⊤
-IsSettled NoMemory = ⊥
-IsSettled (ClientCut client) = ⊥
-IsSettled (ClientMagic client bytes) = ⊥
-IsSettled (ClientFault client) = ⊥
+abbrev pub IsAfterWork : Status → Type 0
+IsAfterWork s = (s ≡ Done) ⊎ (s ≡ OutFault)
 
--- the work was begun, and it was not the container that failed
-abbrev pub IsWorking : Status → Type 0
-IsWorking Done = ⊤
-IsWorking Usage = ⊥
-IsWorking NoHeader = ⊥
-IsWorking NoHidden = ⊥
-IsWorking (Length len) = ⊥
-IsWorking BadSize = ⊥
-IsWorking DiskFault = ⊥
-IsWorking OutFault = ⊤
-IsWorking NoMemory = ⊤
-IsWorking (ClientCut client) = ⊥
-IsWorking (ClientMagic client bytes) = ⊥
-IsWorking (ClientFault client) = ⊥
+abbrev pub IsOfPlain : Status → Type 0
+IsOfPlain (ClientCut client) = ⊥
+IsOfPlain (ClientMagic client bytes) = ⊥
+IsOfPlain (ClientFault client) = ⊥
+IsOfPlain _ = ⊤
+
+-- ---- causes
+
+abbrev pub words_status : WordsError → Status
+words_status reading.Usage = Usage
+words_status reading.NoMemory = NoMemory
+
+abbrev pub open_status : OpenError → Status
+open_status (opening.Length len) = Length len
+open_status opening.NoHeader = NoHeader
+open_status opening.ReadFault = DiskFault
+open_status opening.NoMemory = NoMemory
+
+abbrev pub work_status : WorkError → Status
+work_status work.DiskFault = DiskFault
+work_status work.OutFault = OutFault
+work_status work.NoMemory = NoMemory
+
+abbrev pub cat_status : CatError → Status
+cat_status (cat.Open error) = open_status error
+cat_status cat.BadSize = BadSize
+cat_status (cat.Work error) = work_status error
+
+abbrev pub info_status : InfoError → Status
+info_status (info.Open error) = open_status error
+info_status (info.Work error) = work_status error
+
+abbrev pub format_status : FormatError → Status
+format_status format.BadSize = BadSize
+format_status (format.Work error) = work_status error
+
+abbrev pub ended : {E : Type 0} → (E → Status) → Result (Unit {0}) E → Status
+ended status (Ok done) = Done
+ended status (Err error) = status error

@@ -1,20 +1,22 @@
-//! The top calls: from the words of a command line, a container and an output to a status.
+//! The top calls: from the arguments of a command line, a container and an output to a status.
 //!
-//! `run_plain` is what the program does, over any store and any sink. So far it carries three commands:
+//! `run_plain` is what the program does, over any store and any sink. So far it carries out three commands:
 //! `format` makes a container, `info` shows its header, and `cat` writes sectors of the plain volume.
 //! Everything streams: a call holds one buffer of 64 KiB, whatever the container's size.
+//!
+//! What a command promises is a record in its own file of specs/, and what a promise means is said once, in
+//! specs/Promise.antt. Each command returns a result of its own; `status` alone turns it into a status.
+//! `docs/DEVELOPING.md`, "Building a command", has the steps.
 #![tactic(auto)]
 
 pub use plain::run_plain;
 pub use status::Status;
 
-mod carry;
-mod cat;
-mod format;
-mod info;
+mod access;
+mod commands;
+mod counts;
 mod output;
 pub mod plain;
 pub mod status;
-mod task;
 #[cfg(test)]
 mod tests;

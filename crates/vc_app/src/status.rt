@@ -1,7 +1,12 @@
-//! How a call ended.
+//! How a call ended: one status for each cause, made from each command's own error.
 ghost use Rattle.std.specs.Prelude.{◌≡◌};
-ghost use Rattle.vc_app.specs.Status.{code_of, status_of};
+ghost use Rattle.vc_app.specs.Status.{cat_status, code_of, format_status, info_status, open_status, words_status, work_status};
 
+use crate::commands::cat::CatError;
+use crate::commands::format::FormatError;
+use crate::commands::info::InfoError;
+use crate::counts::WorkError;
+use cmd_words::WordsError;
 use header_try::OpenError;
 
 /// How a call ended. Each cause is a variant of its own.
@@ -9,7 +14,7 @@ use header_try::OpenError;
 pub enum Status {
     /// All was done.
     Done,
-    /// The words make no command of this call.
+    /// The arguments are no command of this call.
     Usage,
     /// No header of the kind is valid: a wrong password, or a damaged header.
     NoHeader,
@@ -17,13 +22,13 @@ pub enum Status {
     NoHidden,
     /// The container has this many bytes, fewer or more than a container may have.
     Length(u64),
-    /// The asked size has no place, or the asked sectors pass the volume's end.
+    /// No container can have the asked size, or the asked sectors pass the volume's end.
     BadSize,
     /// The container failed.
     DiskFault,
     /// The output failed.
     OutFault,
-    /// Memory ran out.
+    /// Out of memory.
     NoMemory,
     /// This client's input ended inside a request.
     ClientCut(u32),
@@ -55,14 +60,72 @@ impl Status {
     }
 }
 
-/// The status of a call whose opening failed so.
-pub fn status_of(error: OpenError) -> Status
-    ensures { result ≡ status_of error }
-{
-    match error {
-        OpenError::Length(len) => Status::Length(len),
-        OpenError::NoHeader => Status::NoHeader,
-        OpenError::ReadFault => Status::DiskFault,
-        OpenError::NoMemory => Status::NoMemory,
+impl From<WordsError> for Status {
+    ghost from_gives = { λ e s. s ≡ words_status e };
+
+    fn from(error: WordsError) -> Status {
+        match error {
+            WordsError::Usage => Status::Usage,
+            WordsError::NoMemory => Status::NoMemory,
+        }
+    }
+}
+
+impl From<OpenError> for Status {
+    ghost from_gives = { λ e s. s ≡ open_status e };
+
+    fn from(error: OpenError) -> Status {
+        match error {
+            OpenError::Length(len) => Status::Length(len),
+            OpenError::NoHeader => Status::NoHeader,
+            OpenError::ReadFault => Status::DiskFault,
+            OpenError::NoMemory => Status::NoMemory,
+        }
+    }
+}
+
+impl From<WorkError> for Status {
+    ghost from_gives = { λ e s. s ≡ work_status e };
+
+    fn from(error: WorkError) -> Status {
+        match error {
+            WorkError::DiskFault => Status::DiskFault,
+            WorkError::OutFault => Status::OutFault,
+            WorkError::NoMemory => Status::NoMemory,
+        }
+    }
+}
+
+impl From<CatError> for Status {
+    ghost from_gives = { λ e s. s ≡ cat_status e };
+
+    fn from(error: CatError) -> Status {
+        match error {
+            CatError::Open(error) => Status::from(error),
+            CatError::BadSize => Status::BadSize,
+            CatError::Work(error) => Status::from(error),
+        }
+    }
+}
+
+impl From<InfoError> for Status {
+    ghost from_gives = { λ e s. s ≡ info_status e };
+
+    fn from(error: InfoError) -> Status {
+        match error {
+            InfoError::Open(error) => Status::from(error),
+            InfoError::Work(error) => Status::from(error),
+        }
+    }
+}
+
+impl From<FormatError> for Status {
+    ghost from_gives = { λ e s. s ≡ format_status e };
+
+    fn from(error: FormatError) -> Status {
+        match error {
+            FormatError::BadSize => Status::BadSize,
+            FormatError::Work(error) => Status::from(error),
+        }
     }
 }

@@ -1,6 +1,7 @@
 //! The commands over stores and sinks in memory, also over those that fail.
 //!
-//! A line stands with `|` between its words, and `@` for the random key 00 to 1f.
+//! A command line is written with `|` between its arguments, and `@` for the random key 00 to 1f. A table is a text
+//! with a row a line and `;` between its columns: the exit status, numbers, and what is done.
 ghost use Rattle.std.specs.Prelude.{◌≡◌};
 
 mod cat;
@@ -26,24 +27,24 @@ static CAT: &str = "cat|c1.vc|0|1|--password|correct horse|--pim|1";
 static SMALL_TEXT: &str =
     "slot standard\nprf sha512\nalgorithm aes\nstart 131072\nsize 512\nsector 512\n";
 
-fn words_of(alloc: Global, line: &str) -> Result<Vec<String>, AllocError> {
-    let mut words = Vec::new(alloc);
-    for word in line.split('|') {
-        let word = if word == "@" { KEY } else { word };
-        words.push(String::from_str(alloc, word)?)?;
+fn arguments_of(alloc: Global, line: &str) -> Result<Vec<String>, AllocError> {
+    let mut arguments = Vec::new(alloc);
+    for argument in line.split('|') {
+        let argument = if argument == "@" { KEY } else { argument };
+        arguments.push(String::from_str(alloc, argument)?)?;
     }
-    Ok(words)
+    Ok(arguments)
 }
 
-// What a line answers over a store and a sink.
+// The end of a command line over a store and a sink.
 fn run_into<R: Threads + Sync + AllocGlobal, D: Store + Drop, O: Sink + Drop>(
     rt: &R,
     line: &str,
     disk: D,
     out: O,
 ) -> Result<(Status, D, O), AllocError> {
-    let words = words_of(rt.alloc(), line)?;
-    Ok(run_plain(rt, rt.alloc(), words.as_slice(), disk, out))
+    let arguments = arguments_of(rt.alloc(), line)?;
+    Ok(run_plain(rt, rt.alloc(), arguments.as_slice(), disk, out))
 }
 
 // The same over a sink that never fails.
@@ -55,23 +56,17 @@ fn run<R: Threads + Sync + AllocGlobal, D: Store + Drop>(
     run_into(rt, line, disk, SureSink::new(rt.alloc()))
 }
 
-#[test]
-fn each_status_has_its_number(rt: HostRuntime) {
-    let rows = [
-        (Status::Done, 0),
-        (Status::Usage, 2),
-        (Status::NoHeader, 3),
-        (Status::NoHidden, 4),
-        (Status::Length(262_655), 5),
-        (Status::BadSize, 6),
-        (Status::DiskFault, 7),
-        (Status::OutFault, 8),
-        (Status::NoMemory, 9),
-        (Status::ClientCut(7), 10),
-        (Status::ClientMagic(7, *b"\x25\x60\x95\x14"), 11),
-        (Status::ClientFault(7), 12),
-    ];
-    for (status, code) in rows {
-        assert_eq!(rt; status.code(), code, "{status:?}");
+// A column of a row, from 0.
+fn column(row: &str, k: usize) -> &str {
+    for (i, text) in row.split(';').enumerate() {
+        if i == k {
+            return text;
+        }
     }
+    ""
+}
+
+// A column that is a number.
+fn number(row: &str, k: usize) -> u64 {
+    column(row, k).parse::<u64>().unwrap_or(u64::MAX)
 }

@@ -1,9 +1,8 @@
 //! `cat` over containers with a volume of known bytes.
 ghost use Rattle.std.specs.Prelude.{◌≡◌, ◌≤◌};
 
-use super::misses::{Miss, MissingStore, SlowSink, Way};
-use super::{CAT, run, run_into};
-use crate::Status;
+use super::misses::{MissingStore, SlowSink, miss_named, way_named};
+use super::{column, number, run, run_into};
 use cascade_set::{Algorithm, Keyed, Keys};
 use cipher_base::UnitCipher;
 use kdf_hmac::{Prf, pbkdf2};
@@ -25,8 +24,8 @@ fn plain_byte(i: usize) -> u8 {
     (i % 256) as u8 ^ (i / 512 % 256) as u8
 }
 
-// Whether the bytes are those of a volume's begin.
-fn is_front(bytes: &[u8]) -> bool {
+// Whether the bytes are a prefix of a volume's.
+fn is_prefix(bytes: &[u8]) -> bool {
     bytes
         .iter()
         .enumerate()
@@ -98,142 +97,94 @@ fn containers_are_those_of_another_program(rt: HostRuntime) -> Result<(), Fail> 
     Ok(())
 }
 
+// Status, bytes written, command line. The last rows have sums and products that pass 2^64, and options and
+// positions in other orders.
+static SMALL_ROWS: &str = "\
+0;512;cat|c1.vc|0|1|--password|correct horse|--pim|1
+0;0;cat|c1.vc|0|0|--password|correct horse|--pim|1
+0;0;cat|c1.vc|1|0|--password|correct horse|--pim|1
+6;0;cat|c1.vc|1|1|--password|correct horse|--pim|1
+6;0;cat|c1.vc|0|2|--password|correct horse|--pim|1
+6;0;cat|c1.vc|2|0|--password|correct horse|--pim|1
+6;0;cat|c1.vc|1|18446744073709551615|--password|correct horse|--pim|1
+6;0;cat|c1.vc|18446744073709551615|1|--password|correct horse|--pim|1
+6;0;cat|c1.vc|0|36028797018963969|--password|correct horse|--pim|1
+3;0;cat|c1.vc|0|1|--password|wrong horse|--pim|1
+3;0;cat|c1.vc|0|1|--password|correct horse|--pim|2
+0;512;cat|--pim|1|--password|correct horse|c1.vc|0|1
+0;512;cat|c1.vc|--kind=standard|0|--pim=1|1|--password=correct horse
+0;512;cat|--kind|any|c1.vc|--password|correct horse|0|--pim|01|01";
+
 #[test]
 fn small_container_by_rows(rt: HostRuntime) -> Result<(), Fail> {
     let whole = container(&rt, SMALL)?;
-    let rows = [
-        (CAT, Status::Done, 512),
-        (
-            "cat|c1.vc|0|0|--password|correct horse|--pim|1",
-            Status::Done,
-            0,
-        ),
-        (
-            "cat|c1.vc|1|0|--password|correct horse|--pim|1",
-            Status::Done,
-            0,
-        ),
-        (
-            "cat|c1.vc|1|1|--password|correct horse|--pim|1",
-            Status::BadSize,
-            0,
-        ),
-        (
-            "cat|c1.vc|0|2|--password|correct horse|--pim|1",
-            Status::BadSize,
-            0,
-        ),
-        (
-            "cat|c1.vc|2|0|--password|correct horse|--pim|1",
-            Status::BadSize,
-            0,
-        ),
-        // sums and products that pass 2^64
-        (
-            "cat|c1.vc|1|18446744073709551615|--password|correct horse|--pim|1",
-            Status::BadSize,
-            0,
-        ),
-        (
-            "cat|c1.vc|18446744073709551615|1|--password|correct horse|--pim|1",
-            Status::BadSize,
-            0,
-        ),
-        (
-            "cat|c1.vc|0|36028797018963969|--password|correct horse|--pim|1",
-            Status::BadSize,
-            0,
-        ),
-        (
-            "cat|c1.vc|0|1|--password|wrong horse|--pim|1",
-            Status::NoHeader,
-            0,
-        ),
-        (
-            "cat|c1.vc|0|1|--password|correct horse|--pim|2",
-            Status::NoHeader,
-            0,
-        ),
-        // options and positions in other orders
-        (
-            "cat|--pim|1|--password|correct horse|c1.vc|0|1",
-            Status::Done,
-            512,
-        ),
-        (
-            "cat|c1.vc|--kind=standard|0|--pim=1|1|--password=correct horse",
-            Status::Done,
-            512,
-        ),
-        (
-            "cat|--kind|any|c1.vc|--password|correct horse|0|--pim|01|01",
-            Status::Done,
-            512,
-        ),
-    ];
-    for (line, wanted, length) in rows {
-        let (status, disk, out) = run(&rt, line, SureStore::new(whole.clone()?))?;
-        assert_eq!(rt; status, wanted, "{line}");
-        assert_eq!(rt; out.bytes().len(), length, "{line}");
-        assert!(rt; is_front(out.bytes()), "{line}");
-        assert!(rt; disk.bytes() == whole.as_slice(), "{line}");
+    for row in SMALL_ROWS.split('\n') {
+        let (status, disk, out) = run(&rt, column(row, 2), SureStore::new(whole.clone()?))?;
+        assert_eq!(rt; u64::from(status.code()), number(row, 0), "{row}");
+        assert_eq!(rt; out.bytes().len() as u64, number(row, 1), "{row}");
+        assert!(rt; is_prefix(out.bytes()), "{row}");
+        assert!(rt; disk.bytes() == whole.as_slice(), "{row}");
     }
     Ok(())
 }
 
+// Status, bytes written, faults counted, the read that is missed, and how. Read 0 is the header's; then come 128,
+// 128 and 44 sectors.
+static MISSED_READS: &str = "\
+7;0;1;0;fails
+7;0;1;1;fails
+7;65536;1;2;fails
+7;131072;1;3;fails
+0;153600;0;4;fails
+7;153600;1;0;recovers
+7;153600;1;2;recovers
+7;153600;1;3;recovers";
+
 #[test]
 fn a_missed_read_is_a_container_fault(rt: HostRuntime) -> Result<(), Fail> {
     let whole = container(&rt, LONG)?;
-    // read 0 is the header's; then come 128, 128 and 44 sectors
-    let rows = [
-        (0, Miss::Fails, Status::DiskFault, 0, 1),
-        (1, Miss::Fails, Status::DiskFault, 0, 1),
-        (2, Miss::Fails, Status::DiskFault, 65_536, 1),
-        (3, Miss::Fails, Status::DiskFault, 131_072, 1),
-        (4, Miss::Fails, Status::Done, LONG, 0),
-        (0, Miss::GetsOver, Status::DiskFault, LONG, 1),
-        (2, Miss::GetsOver, Status::DiskFault, LONG, 1),
-        (3, Miss::GetsOver, Status::DiskFault, LONG, 1),
-    ];
-    for (at, miss, wanted, length, faults) in rows {
-        let disk = MissingStore::new(whole.clone()?, at, miss);
+    for row in MISSED_READS.split('\n') {
+        let disk = MissingStore::new(whole.clone()?, number(row, 3), miss_named(column(row, 4)));
         let (status, disk, out) = run(&rt, CAT_ALL, disk)?;
-        assert_eq!(rt; status, wanted, "read {at}, {miss:?}");
-        assert_eq!(rt; out.bytes().len(), length, "read {at}, {miss:?}");
-        assert_eq!(rt; disk.faults, faults, "read {at}, {miss:?}");
-        assert!(rt; is_front(out.bytes()), "read {at}, {miss:?}");
+        assert_eq!(rt; u64::from(status.code()), number(row, 0), "{row}");
+        assert_eq!(rt; out.bytes().len() as u64, number(row, 1), "{row}");
+        assert_eq!(rt; disk.faults, number(row, 2), "{row}");
+        assert!(rt; is_prefix(out.bytes()), "{row}");
     }
     Ok(())
 }
+
+// Status, bytes written, faults counted, and how the sink takes its pieces.
+static SLOW_SINKS: &str = "\
+0;153600;0;pieces;1
+0;153600;0;pieces;7
+8;0;1;pieces;0
+8;1;1;full;1
+8;65535;1;full;65535
+8;65536;1;full;65536
+8;153599;1;full;153599
+0;153600;0;full;153600
+8;0;1;fails;0
+8;65536;1;fails;1
+8;131072;1;fails;2
+0;153600;0;fails;3
+9;0;0;memory;0
+9;131072;0;memory;2
+8;153600;3;recovers;0
+8;131072;2;recovers, memory;2";
 
 #[test]
 fn a_sink_takes_what_it_can(rt: HostRuntime) -> Result<(), Fail> {
     let alloc = rt.alloc();
     let whole = container(&rt, LONG)?;
-    let rows = [
-        (Way::Pieces(1), Status::Done, LONG, 0),
-        (Way::Pieces(7), Status::Done, LONG, 0),
-        (Way::Pieces(0), Status::OutFault, 0, 1),
-        (Way::Full(1), Status::OutFault, 1, 1),
-        (Way::Full(65_535), Status::OutFault, 65_535, 1),
-        (Way::Full(65_536), Status::OutFault, 65_536, 1),
-        (Way::Full(LONG - 1), Status::OutFault, LONG - 1, 1),
-        (Way::Full(LONG), Status::Done, LONG, 0),
-        (Way::Fails(0), Status::OutFault, 0, 1),
-        (Way::Fails(1), Status::OutFault, 65_536, 1),
-        (Way::Fails(2), Status::OutFault, 131_072, 1),
-        (Way::Fails(3), Status::Done, LONG, 0),
-        (Way::NoMemory(0), Status::NoMemory, 0, 0),
-        (Way::NoMemory(2), Status::NoMemory, 131_072, 0),
-        (Way::GetsOver, Status::OutFault, LONG, 3),
-    ];
-    for (way, wanted, length, faults) in rows {
+    for row in SLOW_SINKS.split('\n') {
         let disk = SureStore::new(whole.clone()?);
-        let (status, _disk, out) = run_into(&rt, CAT_ALL, disk, SlowSink::new(alloc, way))?;
-        assert_eq!(rt; status, wanted, "{way:?}");
-        assert_eq!(rt; out.taken.len(), length, "{way:?}");
-        assert_eq!(rt; out.faults, faults, "{way:?}");
-        assert!(rt; is_front(out.taken.as_slice()), "{way:?}");
+        let sink = SlowSink::new(alloc, way_named(column(row, 3), number(row, 4)));
+        let (status, _disk, out) = run_into(&rt, CAT_ALL, disk, sink)?;
+        assert_eq!(rt; u64::from(status.code()), number(row, 0), "{row}");
+        assert_eq!(rt; out.taken.len() as u64, number(row, 1), "{row}");
+        assert_eq!(rt; out.faults, number(row, 2), "{row}");
+        assert!(rt; is_prefix(out.taken.as_slice()), "{row}");
     }
     Ok(())
 }

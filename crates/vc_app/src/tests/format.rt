@@ -2,18 +2,31 @@
 ghost use Rattle.std.specs.Prelude.{◌≡◌};
 
 use super::misses::{Miss, MissingStore};
-use super::{CAT, FORMAT, INFO, SMALL_TEXT, run};
+use super::{CAT, FORMAT, INFO, SMALL_TEXT, column, number, run};
 use crate::{Status, run_plain};
 use std::test::Fail;
 use vc_outside::{MemStore, Store, SureSink, SureStore};
 
-// Whether these 16 bytes stand there, the highest first.
+// Whether these 16 bytes are there, the highest first.
 fn has_block(bytes: &[u8], at: usize, block: u128) -> bool {
     match bytes.get(at..) {
         Some(rest) => rest.starts_with(&u128::to_be_bytes(block)),
         None => false,
     }
 }
+
+static MIB_TEXT: &str =
+    "slot standard\nprf sha512\nalgorithm aes\nstart 131072\nsize 786432\nsector 512\n";
+
+// Status, whether the text is printed, command line.
+static MIB_ROWS: &str = "\
+0;text;info|c1.vc|--password|correct horse|--pim|1
+0;text;info|--kind=any|--pim=1|c1.vc|--password=correct horse
+0;text;info|c1.vc|--kind|standard|--password|correct horse|--pim|1
+3;;info|c1.vc|--password|wrong horse|--pim|1
+3;;info|c1.vc|--password|correct horse|--pim|2
+0;;cat|c1.vc|1536|0|--password|correct horse|--pim|1
+6;;cat|c1.vc|1536|1|--password|correct horse|--pim|1";
 
 #[test]
 fn a_container_of_1_mib_is_made_and_opens(rt: HostRuntime) -> Result<(), Fail> {
@@ -45,49 +58,26 @@ fn a_container_of_1_mib_is_made_and_opens(rt: HostRuntime) -> Result<(), Fail> {
         let image = disk.after_crash(pick)?;
         assert!(rt; image.as_slice() == disk.bytes(), "crash {pick}");
     }
-    let text = "slot standard\nprf sha512\nalgorithm aes\nstart 131072\nsize 786432\nsector 512\n";
-    let rows = [
-        (INFO, Status::Done, text),
-        (
-            "info|--kind=any|--pim=1|c1.vc|--password=correct horse",
-            Status::Done,
-            text,
-        ),
-        (
-            "info|c1.vc|--kind|standard|--password|correct horse|--pim|1",
-            Status::Done,
-            text,
-        ),
-        (
-            "info|c1.vc|--password|wrong horse|--pim|1",
-            Status::NoHeader,
-            "",
-        ),
-        (
-            "info|c1.vc|--password|correct horse|--pim|2",
-            Status::NoHeader,
-            "",
-        ),
-        (
-            "cat|c1.vc|1536|0|--password|correct horse|--pim|1",
-            Status::Done,
-            "",
-        ),
-        (
-            "cat|c1.vc|1536|1|--password|correct horse|--pim|1",
-            Status::BadSize,
-            "",
-        ),
-    ];
     let mut disk = disk;
-    for (line, wanted, printed) in rows {
-        let (status, after, out) = run(&rt, line, disk)?;
-        assert_eq!(rt; status, wanted, "{line}");
-        assert_eq!(rt; out.bytes(), printed.as_bytes(), "{line}");
+    for row in MIB_ROWS.split('\n') {
+        let (status, after, out) = run(&rt, column(row, 2), disk)?;
+        assert_eq!(rt; u64::from(status.code()), number(row, 0), "{row}");
+        let printed = if column(row, 1) == "text" {
+            MIB_TEXT
+        } else {
+            ""
+        };
+        assert_eq!(rt; out.bytes(), printed.as_bytes(), "{row}");
         disk = after;
     }
     Ok(())
 }
+
+// Status, bytes written, command line.
+static SMALLEST_ROWS: &str = "\
+0;512;cat|c1.vc|0|1|--password|correct horse|--pim|1
+0;0;cat|c1.vc|1|0|--password|correct horse|--pim|1
+6;0;cat|c1.vc|1|1|--password|correct horse|--pim|1";
 
 #[test]
 fn a_longer_container_is_cut_to_the_smallest(rt: HostRuntime) -> Result<(), Fail> {
@@ -106,25 +96,12 @@ fn a_longer_container_is_cut_to_the_smallest(rt: HostRuntime) -> Result<(), Fail
     ] {
         assert!(rt; has_block(whole, at, block), "at {at}");
     }
-    let rows = [
-        (CAT, Status::Done, 512),
-        (
-            "cat|c1.vc|1|0|--password|correct horse|--pim|1",
-            Status::Done,
-            0,
-        ),
-        (
-            "cat|c1.vc|1|1|--password|correct horse|--pim|1",
-            Status::BadSize,
-            0,
-        ),
-    ];
-    for (line, wanted, length) in rows {
+    for row in SMALLEST_ROWS.split('\n') {
         let disk = SureStore::new(Vec::from_slice(rt.alloc(), whole)?);
-        let (status, after, out) = run(&rt, line, disk)?;
-        assert_eq!(rt; status, wanted, "{line}");
-        assert_eq!(rt; out.bytes().len(), length, "{line}");
-        assert!(rt; after.bytes() == whole, "{line}");
+        let (status, after, out) = run(&rt, column(row, 2), disk)?;
+        assert_eq!(rt; u64::from(status.code()), number(row, 0), "{row}");
+        assert_eq!(rt; out.bytes().len() as u64, number(row, 1), "{row}");
+        assert!(rt; after.bytes() == whole, "{row}");
     }
     Ok(())
 }
@@ -173,87 +150,60 @@ fn each_algorithm_opens_with_each_function(rt: HostRuntime) -> Result<(), Fail> 
     Ok(())
 }
 
-// The store counts its reads, and takes no write.
+// Status and command line. The last commands aren't built yet; the last row is one empty argument.
+static REFUSED: &str = "\
+6;format|c1.vc|--size|0|--password|x|--random|@
+6;format|c1.vc|--size|262655|--password|x|--random|@
+6;format|c1.vc|--size|262657|--password|x|--random|@
+6;format|c1.vc|--size|1099511628288|--password|x|--random|@
+6;format|c1.vc|--size|18446744073709551615|--password|x|--random|@
+5;info|c1.vc|--password|x
+5;cat|c1.vc|0|1|--password|x
+2;format|c1.vc|--size|262656|--password|x|--random|@|--pim|2147469
+2;format|c1.vc|--size|262656|--password||--random|@
+2;format|c1.vc|--size|262656|--password|x
+2;info|c1.vc|--password|x|--pim|2147469
+2;info|c1.vc|--password|
+2;info|c1.vc|--password|x|--kind|hidden
+2;info|c1.vc|--password|x|--backup
+2;info|c1.vc|--password|x|--backup|--kind|standard
+2;cat|c1.vc|0|1|--password|x|--pim|2147469
+2;cat|c1.vc|0|1|--password|
+2;cat|c1.vc|0|1|--password|x|--kind|hidden
+2;cat|c1.vc|0|1|--password|x|--backup
+2;cat
+2;dog|c1.vc|0|1|--password|x
+2;hide|c1.vc|--size|512|--password|x|--random|@
+2;passwd|c1.vc|--password|x|--new|y|--random|@
+2;restore|c1.vc|--password|x|--random|@
+2;serve|c1.vc|--password|x
+2;drill|7
+2;";
+
+// The store counts its reads, and takes no write. It has one byte less than the shortest container.
 #[test]
 fn what_is_refused_touches_nothing(rt: HostRuntime) -> Result<(), Fail> {
-    let alloc = rt.alloc();
-    let rows = [
-        (
-            "format|c1.vc|--size|0|--password|x|--random|@",
-            Status::BadSize,
-        ),
-        (
-            "format|c1.vc|--size|262655|--password|x|--random|@",
-            Status::BadSize,
-        ),
-        (
-            "format|c1.vc|--size|262657|--password|x|--random|@",
-            Status::BadSize,
-        ),
-        (
-            "format|c1.vc|--size|1099511628288|--password|x|--random|@",
-            Status::BadSize,
-        ),
-        (
-            "format|c1.vc|--size|18446744073709551615|--password|x|--random|@",
-            Status::BadSize,
-        ),
-        ("info|c1.vc|--password|x", Status::Length(262_655)),
-        ("cat|c1.vc|0|1|--password|x", Status::Length(262_655)),
-        (
-            "format|c1.vc|--size|262656|--password|x|--random|@|--pim|2147469",
-            Status::Usage,
-        ),
-        (
-            "format|c1.vc|--size|262656|--password||--random|@",
-            Status::Usage,
-        ),
-        ("format|c1.vc|--size|262656|--password|x", Status::Usage),
-        ("info|c1.vc|--password|x|--pim|2147469", Status::Usage),
-        ("info|c1.vc|--password|", Status::Usage),
-        ("info|c1.vc|--password|x|--kind|hidden", Status::Usage),
-        ("info|c1.vc|--password|x|--backup", Status::Usage),
-        (
-            "info|c1.vc|--password|x|--backup|--kind|standard",
-            Status::Usage,
-        ),
-        ("cat|c1.vc|0|1|--password|x|--pim|2147469", Status::Usage),
-        ("cat|c1.vc|0|1|--password|", Status::Usage),
-        ("cat|c1.vc|0|1|--password|x|--kind|hidden", Status::Usage),
-        ("cat|c1.vc|0|1|--password|x|--backup", Status::Usage),
-        ("cat", Status::Usage),
-        ("dog|c1.vc|0|1|--password|x", Status::Usage),
-        // commands that are not built yet
-        (
-            "hide|c1.vc|--size|512|--password|x|--random|@",
-            Status::Usage,
-        ),
-        (
-            "passwd|c1.vc|--password|x|--new|y|--random|@",
-            Status::Usage,
-        ),
-        ("restore|c1.vc|--password|x|--random|@", Status::Usage),
-        ("serve|c1.vc|--password|x", Status::Usage),
-        ("drill|7", Status::Usage),
-    ];
-    let short = vec![in alloc; 0xee_u8; 262_655]?;
-    for (line, wanted) in rows {
+    let short = vec![in rt.alloc(); 0xee_u8; 262_655]?;
+    for row in REFUSED.split('\n') {
         let disk = MissingStore::new(short.clone()?, 0, Miss::Fails);
-        let (status, disk, out) = run(&rt, line, disk)?;
-        assert_eq!(rt; status, wanted, "{line}");
-        assert_eq!(rt; disk.reads, 0, "{line}");
-        assert_eq!(rt; disk.faults, 0, "{line}");
-        assert_eq!(rt; out.bytes().len(), 0, "{line}");
+        let (status, disk, out) = run(&rt, column(row, 1), disk)?;
+        assert_eq!(rt; u64::from(status.code()), number(row, 0), "{row}");
+        if let Status::Length(len) = status {
+            assert_eq!(rt; len, 262_655, "{row}");
+        }
+        assert_eq!(rt; disk.reads, 0, "{row}");
+        assert_eq!(rt; disk.faults, 0, "{row}");
+        assert_eq!(rt; out.bytes().len(), 0, "{row}");
     }
-    // no words at all
+    // no arguments at all
     let disk = MissingStore::new(short, 0, Miss::Fails);
-    let (status, disk, _out) = run_plain(&rt, alloc, &[], disk, SureSink::new(alloc));
+    let (status, disk, _out) = run_plain(&rt, rt.alloc(), &[], disk, SureSink::new(rt.alloc()));
     assert_eq!(rt; status, Status::Usage);
     assert_eq!(rt; disk.reads, 0);
     Ok(())
 }
 
-// A container whose standard header is damaged, or which is none.
+// A container whose standard header is damaged, or that has none.
 #[test]
 fn zeros_have_no_header(rt: HostRuntime) -> Result<(), Fail> {
     let disk = SureStore::new(vec![in rt.alloc(); 0u8; 262_656]?);

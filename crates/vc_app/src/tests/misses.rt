@@ -1,4 +1,4 @@
-//! A store and a sink that are missed now and then, and tell nothing of what they hold.
+//! A store and a sink that fail now and then, and whose contents are unknown.
 ghost use Rattle.std.specs.Prelude.{◌≡◌, ◌≤◌, None, ⊤, false, length, true};
 ghost use Rattle.std.proofs.lemmas.Bool.{false≢true};
 ghost use Rattle.vc_base.specs.Faults.{Rose};
@@ -11,8 +11,16 @@ use vc_outside::{Failed, OutError, Sink, Store};
 pub(crate) enum Miss {
     // The read fails, and the next ones do not.
     Fails,
-    // The read is well, and a fault is counted all the same.
-    GetsOver,
+    // The read succeeds, and a fault is counted all the same.
+    Recovers,
+}
+
+pub(crate) fn miss_named(name: &str) -> Miss {
+    if name == "fails" {
+        Miss::Fails
+    } else {
+        Miss::Recovers
+    }
 }
 
 // A store whose read with the number `at` is missed, and to which nothing can be written.
@@ -36,7 +44,7 @@ impl MissingStore {
         }
     }
 
-    // Counts a read, and a fault where it is the missed one. Whether the read fails.
+    // Counts a read, and a fault if it is the missed one. Whether the read fails.
     fn misses(&mut self) -> bool
         ensures bytes { self.new.bytes ≡ self.old.bytes }
         ensures later { self.old.faults ≤ self.new.faults }
@@ -117,10 +125,23 @@ pub(crate) enum Way {
     Full(usize),
     // The write with this number fails.
     Fails(u64),
-    // The write with this number finds no memory.
+    // The write with this number is out of memory.
     NoMemory(u64),
     // All, and a fault is counted at each write.
-    GetsOver,
+    Recovers,
+    // The same up to the write with this number, which is out of memory.
+    RecoversThenNoMemory(u64),
+}
+
+pub(crate) fn way_named(name: &str, n: u64) -> Way {
+    match name {
+        "pieces" => Way::Pieces(n as usize),
+        "full" => Way::Full(n as usize),
+        "fails" => Way::Fails(n),
+        "memory" => Way::NoMemory(n),
+        "recovers, memory" => Way::RecoversThenNoMemory(n),
+        _ => Way::Recovers,
+    }
 }
 
 // A sink that takes its pieces in one of these ways.
@@ -146,7 +167,9 @@ impl SlowSink {
     fn refusal(&self) -> Option<OutError> {
         match self.way {
             Way::Fails(at) if at == self.writes => Some(OutError::Failed),
-            Way::NoMemory(at) if at == self.writes => Some(OutError::NoMemory),
+            Way::NoMemory(at) | Way::RecoversThenNoMemory(at) if at == self.writes => {
+                Some(OutError::NoMemory)
+            }
             _ => None,
         }
     }
@@ -158,8 +181,14 @@ impl SlowSink {
         match self.way {
             Way::Pieces(most) => most.min(length),
             Way::Full(all) => all.saturating_sub(self.taken.len()).min(length),
-            Way::Fails(_) | Way::NoMemory(_) | Way::GetsOver => length,
+            Way::Fails(_) | Way::NoMemory(_) | Way::Recovers | Way::RecoversThenNoMemory(_) =>
+                length,
         }
+    }
+
+    // Whether a fault is counted at each write.
+    fn recovers(&self) -> bool {
+        matches!(self.way, Way::Recovers | Way::RecoversThenNoMemory(_))
     }
 
     fn count_fault(&mut self)
@@ -191,7 +220,7 @@ impl Sink for SlowSink {
             Some(OutError::NoMemory) => Err(OutError::NoMemory),
             None => match self.taken.extend_from_slice(&piece[..room]) {
                 Ok(()) => {
-                    if room == 0 || matches!(self.way, Way::GetsOver) {
+                    if room == 0 || self.recovers() {
                         self.count_fault();
                     }
                     Ok(room)

@@ -4,7 +4,7 @@ use Rattle.vc_app.proofs.output.write_all.Goals as goal
 
 pub loop-at-preserved : goal.loop-at-preserved
 loop-at-preserved g c = record {
-  within = omega (arith, c.in_ok-taken.ensures.within);
-  taken = grows_on _ _ _ c.loop-at.at c.in_ok-taken.taken c.args.bytes.now c.loop-at.invariant.taken c.in_ok-taken.ensures.taken;
+  within = omega (arith, c.in-Ok.ensures.within);
+  taken = grows_on _ _ _ c.loop-at.at c.in-Ok.taken c.args.bytes.now c.loop-at.invariant.taken c.in-Ok.ensures.taken;
   later = omega (arith, c.write.ensures.cause.later);
 }

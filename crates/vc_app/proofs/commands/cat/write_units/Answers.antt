@@ -1,7 +1,7 @@
 use Rattle.std.proofs.Common.{ℕ, ◌/◌, ◌*◌, ◌≡◌, ◌≤◌, List, arith, refl, length, take, length-take, ◌∙◌}
 use Rattle.cascade_set.specs.Volume.{plain_units}
 use Rattle.vc_app.proofs.Parts.{written_none, written_more, stopped, written_all, front_told}
-use Rattle.vc_app.proofs.cat.write_units.Goals as goal
+use Rattle.vc_app.proofs.commands.cat.write_units.Goals as goal
 
 -- the units of a part of the buffer
 part_length : (n : ℕ) (buffer : List ℕ) → length buffer ≡ 65536 → n ≤ 128 → length (take (n * 512) buffer) / 512 ≡ n
@@ -27,15 +27,15 @@ parts-preserved g c = record {
       (g.C.UnitCipher.deciphered c.args.cipher.now) c.args.unit c.parts.at c.min-part.result _
       c.parts.invariant.begun c.parts.invariant.image
       (part_length c.min-part.result c.parts.buffer c.min-part.array_long (omega (arith, c.min-part.ensures)))
-      c.parts.invariant.written (c.in-Done.ensures.done refl);
+      c.parts.invariant.written c.in_ok-write_part.ensures.done;
   image = c.write_part.ensures.image ∙ c.parts.invariant.image;
   size = c.write_part.ensures.size ∙ c.parts.invariant.size;
   disk_later = omega (arith, c.write_part.ensures.disk_cause.later, c.parts.invariant.disk_later);
   out_later = omega (arith, c.write_part.ensures.out_cause.later, c.parts.invariant.out_later);
 }
 
-pub returns-in_default-clause-front : goal.returns-in_default-clause-front
-returns-in_default-clause-front g c =
+pub returns-in_err-write_part-clause-front : goal.returns-in_err-write_part-clause-front
+returns-in_err-write_part-clause-front g c =
     stopped (g.D.Store.image c.args.disk.now) (g.D.Store.image c.parts.disk)
     (g.O.Sink.contents c.args.out.now) (g.O.Sink.contents c.parts.out) (g.O.Sink.contents c.write_part.new.out)
     (g.C.UnitCipher.deciphered c.args.cipher.now) c.args.unit c.parts.at c.min-part.result _ c.parts.left c.args.count
@@ -44,7 +44,7 @@ returns-in_default-clause-front g c =
     c.parts.invariant.written c.write_part.ensures.front
 
 pub returns-clause-done : goal.returns-clause-done
-returns-clause-done g c = λ _.
+returns-clause-done g c =
     written_all (g.D.Store.image c.args.disk.now) (g.O.Sink.contents c.args.out.now) (g.O.Sink.contents c.parts.out)
     (g.C.UnitCipher.deciphered c.args.cipher.now) c.args.unit c.parts.at c.args.count
     (omega (arith, c.parts.invariant.end)) c.parts.invariant.written

@@ -3,7 +3,7 @@ use Rattle.std.proofs.Common.{◌≡◌, ◌≤◌, ◌+◌, ◌-◌}
 use Rattle.std.specs.Prelude.{IfSome}
 use Rattle.vc_outside.specs.Told.{Grows}
 use Rattle.cascade_set.specs.Volume.{plain_units}
-use Rattle.vc_app.proofs.cat.write_units.Given as goal
+use Rattle.vc_app.proofs.commands.cat.write_units.Given as goal
 
 abbrev pub invariant-parts : goal.invariant-parts
 invariant-parts g l = record {

@@ -1,0 +1,169 @@
+-- What a command promises, and what holds of a call that carries it out.
+--
+-- A promise says what a command does, as data: when it is refused, and if it isn't, what it leaves of the
+-- container and what it writes. Each command states its own, in a file of its name. What a promise means is
+-- said once, in Kept: that record is the whole theorem of the commands.
+--
+-- Plan                 what a command leaves and writes if nothing fails
+-- Outcome              what comes of a container's bytes: a refusal, or a plan
+-- Reach                how far a command may change the container, whatever happens
+-- Promise              what a command does
+-- Seen                 what contracts see of a container and an output at one moment
+-- Whole p old new      the work on the container is whole
+-- IsEarly p s old      what is asked and the length refuse the command with the status s
+-- IsLate p s old       the container's bytes do
+-- Kept p s old new     a call that ended with the status s kept the promise
+-- IsComplete ..        without a fault such a call does what the container's bytes decide
+use Rattle.std.specs.Prelude.{◌≡◌, ◌⊎◌, ◌<◌, ◌-◌, ◌^◌, ℕ, ⊤, Bool, false, List, [], Option, Some, None, IfSome, Contains}
+use Rattle.vc_base.specs.Faults.{HasCause}
+use Rattle.vc_outside.specs.Crash.{IsLasting}
+use Rattle.vc_outside.specs.Told.{Both, Grows, GrowsByFront}
+use Rattle.vc_outside.specs.declared.store.Store as store
+use Rattle.vc_outside.specs.declared.sink.Sink as sink
+use Rattle.vc_app.specs.declared.status.Status.{Status}
+use Rattle.vc_app.specs.declared.status.Status.TheVariants.{Done, Usage, DiskFault, OutFault, NoMemory}
+use Rattle.vc_app.specs.Status.{IsAfterWork, IsOfPlain, IsRefusal}
+
+pub record Plan : Type 0 where
+  -- the container's bytes
+  pub image : List ℕ
+  -- what is added to the output
+  pub output : List ℕ
+
+pub data Outcome : Type 0 where
+  refused : Status → Outcome
+  goes : Plan → Outcome
+
+pub data Reach : Type 0 where
+  nowhere : Reach
+  anywhere : Reach
+
+pub record Promise : Type 1 where
+  -- what is asked and the container's length admit the command
+  pub admits : ℕ → Type 0
+  -- if they don't, it is refused with this status before anything is read or written
+  pub early : ℕ → Status → Type 0
+  -- the refusals that may come of the container's bytes
+  pub late : List Status
+  -- what comes of the container's bytes, if that is known
+  pub plan : Option (List ℕ) → Option Outcome
+  pub reach : Reach
+  -- the length that is left, of the length before
+  pub length_left : ℕ → ℕ
+  -- it may have written a prefix of its output when the container fails
+  pub streams : Bool
+
+-- the promise of arguments that are no command of this call
+abbrev pub no_command : Promise
+no_command = record {
+  admits = λ len. ⊥;
+  early = λ len s. s ≡ Usage;
+  late = [];
+  plan = λ image. None;
+  reach = nowhere;
+  length_left = λ len. len;
+  streams = false;
+}
+
+-- ---- what is seen
+
+pub record Seen : Type 1 where
+  pub image : Option (List ℕ)
+  pub size : ℕ
+  pub disk_faults : ℕ
+  -- what a crash may leave, if the container models it
+  pub tells : Bool
+  pub may_leave : List ℕ → Type 0
+  pub contents : Option (List ℕ)
+  pub out_faults : ℕ
+
+abbrev pub seen : {D O : Type 0} → store.Ghosts D → sink.Ghosts O → D → O → Seen
+seen d o disk out = record {
+  image = d.image disk;
+  size = d.size disk;
+  disk_faults = d.faults disk;
+  tells = d.tells;
+  may_leave = d.may_leave disk;
+  contents = o.contents out;
+  out_faults = o.faults out;
+}
+
+-- the container is as it was
+pub record Same (old new : Seen) : Type 0 where
+  pub image : new.image ≡ old.image
+  pub size : new.size ≡ old.size
+
+abbrev pub Within : Reach → Seen → Seen → Type 0
+Within nowhere old new = Same old new
+Within anywhere old new = ⊤
+
+-- what the command left lasts, if it may change the container
+abbrev pub Lasts : Reach → Seen → Type 0
+Lasts nowhere new = ⊤
+Lasts anywhere new = IsLasting new.tells new.image new.may_leave
+
+-- ---- what a promise means
+
+-- the command goes by a plan of which P holds, if that is known
+abbrev pub Goes : Option Outcome → (Plan → Type 0) → Type 0
+Goes None P = ⊤
+Goes (Some (refused s)) P = ⊥
+Goes (Some (goes plan)) P = P plan
+
+-- a prefix of the plan's output was added, and nothing if the command is refused
+abbrev pub IsFront : Option Outcome → Option (List ℕ) → Option (List ℕ) → Type 0
+IsFront None old new = ⊤
+IsFront (Some (refused s)) old new = new ≡ old
+IsFront (Some (goes plan)) old new = GrowsByFront old new plan.output
+
+pub record Whole (p : Promise) (old new : Seen) : Type 0 where
+  pub admitted : p.admits old.size
+  pub left : Goes (p.plan old.image) (λ plan. Both old.image new.image (λ before after. after ≡ plan.image))
+  pub length_left : new.size ≡ p.length_left old.size
+  pub lasting : Lasts p.reach new
+
+pub record IsEarly (p : Promise) (s : Status) (old : Seen) : Type 0 where
+  pub refuses : ¬ p.admits old.size
+  pub comes : p.early old.size s
+
+pub record IsLate (p : Promise) (s : Status) (old : Seen) : Type 0 where
+  pub admitted : p.admits old.size
+  pub named : Contains p.late s
+  pub comes : IfSome (p.plan old.image) (λ outcome. outcome ≡ refused s)
+
+pub record Kept (p : Promise) (s : Status) (old new : Seen) : Type 0 where
+  -- What is written: all of the plan's output with Done, and never more than a prefix of it. Nothing is written
+  -- with a refusal, nor with a fault of the container unless the command streams.
+  pub done : s ≡ Done → Goes (p.plan old.image) (λ plan. Grows old.contents new.contents plan.output)
+  pub front : IsFront (p.plan old.image) old.contents new.contents
+  pub quiet : IsRefusal s → new.contents ≡ old.contents
+  pub quiet_fault : s ≡ DiskFault → p.streams ≡ false → new.contents ≡ old.contents
+  -- What is left of the container. Out of memory, it is as it was or whole.
+  pub whole : IsAfterWork s → Whole p old new
+  pub same : IsRefusal s → Same old new
+  pub no_memory : s ≡ NoMemory → Same old new ⊎ Whole p old new
+  pub within : Within p.reach old new
+  -- Why it is refused. NoMemory may come in place of any other status.
+  pub early : (t : Status) → IsEarly p t old
+      → ((s ≡ t) ⊎ (s ≡ NoMemory)) × Same old new × (new.contents ≡ old.contents)
+  pub refused : IsRefusal s → IsEarly p s old ⊎ IsLate p s old
+  pub possible : IsOfPlain s
+  -- A fault comes only if the object's count rose in this call, and Done and NoMemory only if neither count did.
+  pub disk_cause : HasCause old.disk_faults new.disk_faults (s ≡ DiskFault)
+  pub out_cause : HasCause old.out_faults new.out_faults (s ≡ OutFault)
+  pub disk_count : s ≡ Done → new.disk_faults ≡ old.disk_faults
+  pub out_count : s ≡ Done → new.out_faults ≡ old.out_faults
+  pub memory_counts : s ≡ NoMemory → (new.disk_faults ≡ old.disk_faults) × (new.out_faults ≡ old.out_faults)
+
+-- ---- without a fault
+
+abbrev pub status_in : Outcome → Status
+status_in (refused s) = s
+status_in (goes plan) = Done
+
+-- If no count of faults rises, the status is the one that comes of the container's bytes, or NoMemory.
+abbrev pub IsComplete : Promise → Status → Seen → Seen → Type 0
+IsComplete p s old new = (outcome : Outcome) → p.admits old.size → p.plan old.image ≡ Some outcome
+    → old.disk_faults < 2 ^ 64 - 1 → old.out_faults < 2 ^ 64 - 1
+    → new.disk_faults ≡ old.disk_faults → new.out_faults ≡ old.out_faults
+    → (s ≡ status_in outcome) ⊎ (s ≡ NoMemory)

@@ -1,0 +1,48 @@
+//! What opens a volume.
+ghost use Rattle.std.specs.Prelude.{◌≡◌, ◌≢◌, ◌≤◌, ℕ, Err, None, Some, IfOk, IfSome, IsErrOf, OnOk};
+ghost use Rattle.vc_base.specs.Faults.{HasCause};
+ghost use Rattle.kdf_hmac.specs.Pbkdf2.{IsPim};
+ghost use Rattle.vc_layout.specs.Layout.{IsContainerLength};
+ghost use Rattle.vc_header.specs.Header.{Meets};
+ghost use Rattle.vc_app.specs.Access.{is_built, opened};
+
+use header_try::{Kind, OpenError, Opened, open_plain};
+use kdf_hmac::Password;
+use vc_outside::Store;
+
+/// What opens a volume: the first header of the kind that password and PIM make valid.
+#[derive(Drop)]
+pub struct Access {
+    pub password: Password,
+    pub pim: u32,
+    pub kind: Kind,
+}
+
+impl Access {
+    /// Whether headers of the kind are opened. So far only the standard slot's are.
+    pub fn is_built(&self) -> bool
+        ensures { result ≡ is_built self.now.kind }
+    {
+        matches!(self.kind, Kind::Any | Kind::StandardOnly)
+    }
+
+    /// Opens the header.
+    pub fn open<D: Store>(&self, disk: &mut D) -> Result<Opened, OpenError>
+        requires { IsPim self.now.pim }
+        ensures opened { IfOk result (λ o. IfSome (D.image disk.old) (λ b. opened self.now b ≡ Some o)) }
+        ensures none_valid { IsErrOf result OpenError.NoHeader
+            → IfSome (D.image disk.old) (λ b. opened self.now b ≡ None) }
+        ensures length { (n : ℕ) → IsErrOf result (OpenError.Length n)
+            → (n ≡ D.size disk.old) × ¬ IsContainerLength n }
+        ensures refused { ¬ IsContainerLength (D.size disk.old)
+            → IsErrOf result (OpenError.Length (D.size disk.old)) }
+        ensures in_range { OnOk result (IsContainerLength (D.size disk.old)) }
+        ensures cause { HasCause (D.faults disk.old) (D.faults disk.new) (IsErrOf result OpenError.ReadFault) }
+        ensures memory { result ≢ Err OpenError.NoMemory }
+        ensures meets { IfOk result (λ o. Meets o.fields o.slot (D.size disk.old)) }
+        ensures image { D.image disk.new ≡ D.image disk.old }
+        ensures size { D.size disk.new ≡ D.size disk.old }
+    {
+        open_plain(disk, &self.password, self.pim, self.kind)
+    }
+}

@@ -1,0 +1,5 @@
+//! The commands, a file each.
+
+pub mod cat;
+pub mod format;
+pub mod info;

@@ -1,0 +1,166 @@
+//! `cat`: sectors of the plain volume, deciphered and written.
+ghost use Rattle.std.specs.Prelude.{◌≡◌, ◌≤◌, ◌+◌, ◌*◌, ◌/◌, ◌%◌, ◌^◌, IfSome, IsErrOf, OnOk, length};
+ghost use Rattle.vc_base.specs.Faults.{HasCause};
+ghost use Rattle.cascade_set.specs.Volume.{plain_units};
+ghost use Rattle.kdf_hmac.specs.Pbkdf2.{IsPim};
+ghost use Rattle.vc_header.specs.Header.{Meets};
+ghost use Rattle.vc_outside.specs.Told.{Grows, GrowsByFront};
+ghost use Rattle.vc_app.specs.Cat.{asked, promise};
+ghost use Rattle.vc_app.specs.declared.commands.cat.CatError.TheVariants.{Open, Work};
+ghost use Rattle.vc_app.specs.Promise.{Kept, seen};
+ghost use Rattle.vc_app.specs.Status.{cat_status, ended};
+
+use crate::access::Access;
+use crate::counts::{Counts, WorkError};
+use crate::output::write_all;
+use cascade_set::{Keyed, Keys};
+use cipher_base::UnitCipher;
+use header_try::{OpenError, Opened};
+use vc_layout::SECTOR;
+use vc_outside::{Sink, Store};
+
+/// The sectors that the buffer holds.
+const BUFFER_SECTORS: u64 = 128;
+
+/// The buffer's length in bytes.
+const BUFFER: usize = 65_536;
+
+/// What `cat` is asked: `count` sectors from `first` on, of the volume that is opened.
+#[derive(Drop)]
+pub struct Cat {
+    pub first: u64,
+    pub count: u64,
+    pub access: Access,
+}
+
+/// Why `cat` failed. The container is as before in every case.
+#[derive(Clone, Copy, Debug, PartialEq, Eq)]
+pub enum CatError {
+    /// No header was opened.
+    Open(OpenError),
+    /// The volume doesn't have all of the asked sectors.
+    BadSize,
+    /// Reading or writing sectors stopped. A prefix of them may have been written.
+    Work(WorkError),
+}
+
+impl From<OpenError> for CatError {
+    ghost from_gives = { λ e c. c ≡ Open e };
+
+    fn from(error: OpenError) -> CatError {
+        CatError::Open(error)
+    }
+}
+
+impl From<WorkError> for CatError {
+    ghost from_gives = { λ e c. c ≡ Work e };
+
+    fn from(error: WorkError) -> CatError {
+        CatError::Work(error)
+    }
+}
+
+/// Opens the volume and writes the asked sectors.
+pub fn run_cat<D: Store, O: Sink>(disk: &mut D, out: &mut O, command: &Cat) -> Result<(), CatError>
+    requires { IsPim command.now.access.pim }
+    ensures { Kept (promise command.now) (ended cat_status result)
+        (seen ⟦<D as Store>⟧ ⟦<O as Sink>⟧ disk.old out.old) (seen ⟦<D as Store>⟧ ⟦<O as Sink>⟧ disk.new out.new) }
+{
+    let counts = Counts::new(disk, out);
+    let opened = command.access.open(disk)?;
+    let sectors = opened.fields.volume_size / SECTOR;
+    if command.first > sectors || command.count > sectors - command.first {
+        return Err(CatError::BadSize);
+    }
+    let written = write_sectors(disk, out, command, &opened);
+    counts.settle(disk, out, written)?;
+    Ok(())
+}
+
+// Writes the asked sectors of an opened volume, which has them.
+fn write_sectors<D: Store, O: Sink>(
+    disk: &mut D,
+    out: &mut O,
+    command: &Cat,
+    opened: &Opened,
+) -> Result<(), WorkError>
+    requires meets { Meets opened.now.fields opened.now.slot (D.size disk.old) }
+    requires small { D.size disk.old ≤ 2 ^ 60 }
+    requires within { command.now.first + command.now.count ≤ opened.now.fields.volume_size / 512 }
+    ensures done { OnOk result (IfSome (D.image disk.old) (λ b.
+        Grows (O.contents out.old) (O.contents out.new) (asked command.now opened.now b))) }
+    ensures front { IfSome (D.image disk.old) (λ b.
+        GrowsByFront (O.contents out.old) (O.contents out.new) (asked command.now opened.now b)) }
+    ensures disk_cause { HasCause (D.faults disk.old) (D.faults disk.new) (IsErrOf result WorkError.DiskFault) }
+    ensures out_cause { HasCause (O.faults out.old) (O.faults out.new) (IsErrOf result WorkError.OutFault) }
+    ensures image { D.image disk.new ≡ D.image disk.old }
+    ensures size { D.size disk.new ≡ D.size disk.old }
+{
+    let keyed = Keyed::new(&Keys {
+        algorithm: opened.algorithm,
+        material: opened.fields.material,
+    });
+    let unit = opened.fields.start / SECTOR + command.first;
+    write_units(disk, out, &keyed, unit, command.count)
+}
+
+// Writes `count` deciphered data units, of which the first has the number `unit`.
+fn write_units<D: Store, O: Sink, C: UnitCipher>(
+    disk: &mut D,
+    out: &mut O,
+    cipher: &C,
+    unit: u64,
+    count: u64,
+) -> Result<(), WorkError>
+    requires within { (unit + count) * 512 ≤ D.size disk.old }
+    requires small { D.size disk.old ≤ 2 ^ 60 }
+    ensures done { OnOk result (IfSome (D.image disk.old) (λ b.
+        Grows (O.contents out.old) (O.contents out.new) (plain_units (C.deciphered cipher.now) b unit count))) }
+    ensures front { IfSome (D.image disk.old) (λ b.
+        GrowsByFront (O.contents out.old) (O.contents out.new) (plain_units (C.deciphered cipher.now) b unit count)) }
+    ensures disk_cause { HasCause (D.faults disk.old) (D.faults disk.new) (IsErrOf result WorkError.DiskFault) }
+    ensures out_cause { HasCause (O.faults out.old) (O.faults out.new) (IsErrOf result WorkError.OutFault) }
+    ensures image { D.image disk.new ≡ D.image disk.old }
+    ensures size { D.size disk.new ≡ D.size disk.old }
+{
+    let mut buffer = [0u8; BUFFER];
+    let mut at = unit;
+    let mut left = count;
+    'parts: while left > 0 {
+        let part = left.min(BUFFER_SECTORS);
+        let bytes = &mut buffer[..part as usize * 512];
+        write_part(disk, out, cipher, at, bytes)?;
+        at += part;
+        left -= part;
+    }
+    Ok(())
+}
+
+// Fills the bytes with data units, of which the first has the number `unit`, deciphers and writes them.
+fn write_part<D: Store, O: Sink, C: UnitCipher>(
+    disk: &mut D,
+    out: &mut O,
+    cipher: &C,
+    unit: u64,
+    bytes: &mut [u8],
+) -> Result<(), WorkError>
+    requires whole { length bytes.old % 512 ≡ 0 }
+    requires within { unit * 512 + length bytes.old ≤ D.size disk.old }
+    requires small { D.size disk.old ≤ 2 ^ 60 }
+    ensures done { OnOk result (IfSome (D.image disk.old) (λ b.
+        Grows (O.contents out.old) (O.contents out.new)
+        (plain_units (C.deciphered cipher.now) b unit (length bytes.old / 512)))) }
+    ensures front { IfSome (D.image disk.old) (λ b.
+        GrowsByFront (O.contents out.old) (O.contents out.new)
+        (plain_units (C.deciphered cipher.now) b unit (length bytes.old / 512))) }
+    ensures disk_cause { HasCause (D.faults disk.old) (D.faults disk.new) (IsErrOf result WorkError.DiskFault) }
+    ensures out_cause { HasCause (O.faults out.old) (O.faults out.new) (IsErrOf result WorkError.OutFault) }
+    ensures image { D.image disk.new ≡ D.image disk.old }
+    ensures size { D.size disk.new ≡ D.size disk.old }
+{
+    let Ok(()) = disk.read_at(unit * SECTOR, bytes) else {
+        return Err(WorkError::DiskFault);
+    };
+    cipher.decipher_units(unit, bytes);
+    write_all(out, bytes)
+}

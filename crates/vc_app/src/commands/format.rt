@@ -1,0 +1,65 @@
+//! `format`: a new container with an outer volume.
+ghost use Rattle.std.specs.Prelude.{◌≡◌};
+ghost use Rattle.kdf_hmac.specs.Pbkdf2.{IsPim};
+ghost use Rattle.vc_app.specs.Format.{promise};
+ghost use Rattle.vc_app.specs.declared.commands.format.FormatError.TheVariants.{Work};
+ghost use Rattle.vc_app.specs.Promise.{Kept, seen};
+ghost use Rattle.vc_app.specs.Status.{ended, format_status};
+
+use crate::counts::{Counts, WorkError};
+use crate::output::write_all;
+use rand_chacha::ChaCha20Rng;
+use rand_core::SeedableRng;
+use vc_outside::{Sink, Store};
+use volume_format::{FormatError as OuterError, FormatSpec, format_outer};
+
+/// Why `format` failed.
+#[derive(Clone, Copy, Debug, PartialEq, Eq)]
+pub enum FormatError {
+    /// No container can have the asked size. Nothing changed.
+    BadSize,
+    /// The work stopped. After a fault of the output the container is made; after one of the container it holds
+    /// nothing of use; out of memory, it is one or as before.
+    Work(WorkError),
+}
+
+impl From<WorkError> for FormatError {
+    ghost from_gives = { λ e f. f ≡ Work e };
+
+    fn from(error: WorkError) -> FormatError {
+        FormatError::Work(error)
+    }
+}
+
+/// Formats the container, from the stream of a random key, and says so.
+pub fn run_format<D: Store, O: Sink>(
+    disk: &mut D,
+    out: &mut O,
+    spec: &FormatSpec,
+    random: [u8; 32],
+) -> Result<(), FormatError>
+    requires { IsPim spec.now.pim }
+    ensures { Kept (promise spec.now random) (ended format_status result)
+        (seen ⟦<D as Store>⟧ ⟦<O as Sink>⟧ disk.old out.old) (seen ⟦<D as Store>⟧ ⟦<O as Sink>⟧ disk.new out.new) }
+{
+    let counts = Counts::new(disk, out);
+    let mut rng = ChaCha20Rng::from_seed(random);
+    match format_outer(disk, &mut rng, spec) {
+        Ok(()) => {}
+        Err(OuterError::BadSize) => return Err(FormatError::BadSize),
+        Err(OuterError::WriteFault) => return Err(FormatError::Work(WorkError::DiskFault)),
+        Err(OuterError::NoMemory) => {
+            if counts.disk_failed(disk) {
+                return Err(FormatError::Work(WorkError::DiskFault));
+            }
+            return Err(FormatError::Work(WorkError::NoMemory));
+        }
+    }
+    // A fault that the container recovered from is known before anything is written.
+    if counts.disk_failed(disk) {
+        return Err(FormatError::Work(WorkError::DiskFault));
+    }
+    let written = write_all(out, b"ok\n");
+    counts.settle(disk, out, written)?;
+    Ok(())
+}

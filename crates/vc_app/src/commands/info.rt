@@ -1,0 +1,101 @@
+//! `info`: what the opened header says.
+ghost use Rattle.std.specs.Prelude.{◌≡◌, ◌++◌, IfOk, IfSome, IsErrOf, OnOk, string_bytes};
+ghost use Rattle.vc_base.specs.Faults.{HasCause};
+ghost use Rattle.kdf_hmac.specs.Pbkdf2.{IsPim};
+ghost use Rattle.vc_outside.specs.Told.{Grows, GrowsByFront};
+ghost use Rattle.vc_app.specs.Info.{promise, text_line, text_of};
+ghost use Rattle.vc_app.specs.declared.commands.info.InfoError.TheVariants.{Open, Work};
+ghost use Rattle.vc_app.specs.Promise.{Kept, seen};
+ghost use Rattle.vc_app.specs.Status.{ended, info_status};
+
+use crate::access::Access;
+use crate::counts::{Counts, WorkError};
+use crate::output::write_all;
+use header_try::{OpenError, Opened};
+use std::alloc::{AllocError, Global};
+use std::fmt::Display;
+use vc_outside::{Sink, Store};
+
+/// Why `info` failed. The container is as before in every case.
+#[derive(Clone, Copy, Debug, PartialEq, Eq)]
+pub enum InfoError {
+    /// No header was opened.
+    Open(OpenError),
+    /// The text wasn't written whole.
+    Work(WorkError),
+}
+
+impl From<OpenError> for InfoError {
+    ghost from_gives = { λ e i. i ≡ Open e };
+
+    fn from(error: OpenError) -> InfoError {
+        InfoError::Open(error)
+    }
+}
+
+impl From<WorkError> for InfoError {
+    ghost from_gives = { λ e i. i ≡ Work e };
+
+    fn from(error: WorkError) -> InfoError {
+        InfoError::Work(error)
+    }
+}
+
+/// Opens the volume and writes six lines about its header.
+pub fn run_info<D: Store, O: Sink>(
+    alloc: Global,
+    disk: &mut D,
+    out: &mut O,
+    access: &Access,
+) -> Result<(), InfoError>
+    requires { IsPim access.now.pim }
+    ensures { Kept (promise access.now) (ended info_status result)
+        (seen ⟦<D as Store>⟧ ⟦<O as Sink>⟧ disk.old out.old) (seen ⟦<D as Store>⟧ ⟦<O as Sink>⟧ disk.new out.new) }
+{
+    let counts = Counts::new(disk, out);
+    let opened = access.open(disk)?;
+    // A fault that the container recovered from is known before anything is written.
+    if counts.disk_failed(disk) {
+        return Err(InfoError::Work(WorkError::DiskFault));
+    }
+    let written = write_text(alloc, out, &opened);
+    counts.settle(disk, out, written)?;
+    Ok(())
+}
+
+// Writes the text about an opened header.
+fn write_text<O: Sink>(alloc: Global, out: &mut O, opened: &Opened) -> Result<(), WorkError>
+    ensures done { OnOk result (Grows (O.contents out.old) (O.contents out.new) (text_of opened.now)) }
+    ensures front { GrowsByFront (O.contents out.old) (O.contents out.new) (text_of opened.now) }
+    ensures cause { HasCause (O.faults out.old) (O.faults out.new) (IsErrOf result WorkError.OutFault) }
+    ensures not_disk { IsErrOf result WorkError.DiskFault → ⊥ }
+{
+    match text(alloc, opened) {
+        Ok(text) => write_all(out, text.as_bytes()),
+        Err(_) => Err(WorkError::NoMemory),
+    }
+}
+
+fn text(alloc: Global, opened: &Opened) -> Result<String, AllocError>
+    ensures { IfOk result (λ s. string_bytes s ≡ text_of opened.now) }
+{
+    let mut text = String::new(alloc);
+    push_line(&mut text, "slot", opened.slot.name())?;
+    push_line(&mut text, "prf", opened.prf.name())?;
+    push_line(&mut text, "algorithm", opened.algorithm.name())?;
+    push_line(&mut text, "start", opened.fields.start)?;
+    push_line(&mut text, "size", opened.fields.volume_size)?;
+    push_line(&mut text, "sector", opened.fields.sector)?;
+    Ok(text)
+}
+
+// Adds a name and a value, as a line.
+fn push_line<V: Display + Drop>(text: &mut String, name: &str, value: V) -> Result<(), AllocError>
+    ensures { OnOk result (IfSome (V.output value) (λ v.
+        string_bytes text.new ≡ string_bytes text.old ++ text_line name.now v)) }
+{
+    text.push_str(name)?;
+    text.push_str(" ")?;
+    text.write(value)?;
+    text.push_str("\n")
+}
