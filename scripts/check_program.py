@@ -103,7 +103,7 @@ def written_headers(rows, folder):
         ("system encryption", {"flags": 1}, 3),
         ("encrypted in place", {"flags": 2}, 3),
         ("another flag", {"flags": 4}, 0),
-        ("sectors of 4096", {"sector": 4096}, 3),
+        ("sectors of 3072", {"sector": 3072}, 3),
         ("more is enciphered", {"encrypted": room + SECTOR}, 0),
         ("less is enciphered", {"encrypted": room - SECTOR}, 3),
         ("a hidden volume's header", {"hidden": 512}, 3),

@@ -3,7 +3,8 @@
 
 It shares no line with vcserve and follows the published formats: RFC 8018 by hashlib, CRC-32 by
 zlib, IEEE 1619 over AES and ChaCha20 by the package `cryptography`, IEEE 1619 over Serpent and
-Twofish by libgcrypt. The headers are standard ones, and with `format` their backups.
+Twofish by libgcrypt. The headers are standard ones, with `format` their backups too, and with `hide` those
+of a hidden volume.
 
   independent_container.py make FILE SIZE PASSWORD PIM [--zeros] [--prf NAME] [--algorithm NAME]
       a container of SIZE bytes. Its sector i holds the bytes (i + j) mod 256 for j from 0 to
@@ -11,9 +12,12 @@ Twofish by libgcrypt. The headers are standard ones, and with `format` their bac
       from a seed. --zeros: as the small test container: zero salt, master keys 00, 01 and so on
   independent_container.py cat FILE FIRST COUNT PASSWORD PIM [--prf NAME] [--algorithm NAME]
       writes COUNT sectors from FIRST on, deciphered
-  independent_container.py format FILE SIZE PASSWORD PIM KEY [--prf NAME] [--algorithm NAME]
+  independent_container.py format FILE SIZE PASSWORD PIM KEY [--prf NAME] [--algorithm NAME] [--sector N]
       a formatted container of SIZE bytes: ChaCha20 under KEY, 64 hexadecimal digits, fills it and
       gives the master keys after that; the standard header and its backup take salts from the fill
+  independent_container.py hide FILE SIZE PASSWORD PIM KEY [--prf NAME] [--algorithm NAME] [--sector N]
+      gives the container a hidden volume of SIZE bytes: ChaCha20 under KEY gives the master keys, then
+      the salts of the hidden header and of its backup
 
 The PRFs are sha512, the default, and sha256. The algorithms are the names in
 ALGORITHMS, aes by default. The status is 77 if `cryptography` is missing, or libgcrypt
@@ -207,14 +211,29 @@ def make(path, size, password, pim, zeros=False, *, prf="sha512", algorithm="aes
             file.write(encipher(material, start // SECTOR + i, pattern(i), algorithm))
 
 
-def formatted(size, password, pim, key, prf="sha512", algorithm="aes"):
-    """The image of a formatted container; the random stream's block counter and nonce are 0."""
-    zeros = bytes(size + key_length(algorithm))
-    stream = Cipher(algorithms.ChaCha20(key, bytes(16)), mode=None).encryptor().update(zeros)
+def random_stream(key, count):
+    """The first bytes of the random stream; its block counter and nonce are 0."""
+    return Cipher(algorithms.ChaCha20(key, bytes(16)), mode=None).encryptor().update(bytes(count))
+
+
+def formatted(size, password, pim, key, prf="sha512", algorithm="aes", sector=SECTOR):
+    """The image of a formatted container."""
+    stream = random_stream(key, size + key_length(algorithm))
     image = bytearray(stream[:size])
-    plain = body(size - 2 * GROUP, GROUP, stream[size:])
+    plain = body(size - 2 * GROUP, GROUP, stream[size:], sector=sector)
     for place in (0, size - GROUP):
         salt = stream[place:place + 64]
+        image[place:place + SECTOR] = header(password, pim, salt, plain, prf, algorithm)
+    return bytes(image)
+
+
+def hidden(image, size, password, pim, key, prf="sha512", algorithm="aes", sector=SECTOR):
+    """The image with a hidden volume of this size in front of the backup headers."""
+    keys = key_length(algorithm)
+    stream = random_stream(key, keys + 128)
+    plain = body(size, len(image) - GROUP - size, stream[:keys], hidden=size, sector=sector)
+    image = bytearray(image)
+    for place, salt in ((GROUP // 2, stream[keys:keys + 64]), (len(image) - GROUP // 2, stream[keys + 64:])):
         image[place:place + SECTOR] = header(password, pim, salt, plain, prf, algorithm)
     return bytes(image)
 
@@ -237,7 +256,7 @@ def arguments():
                                   formatter_class=argparse.RawDescriptionHelpFormatter)
     commands = top.add_subparsers(dest="command", required=True)
     for command, words in [("make", "size password pim"), ("cat", "first count password pim"),
-                           ("format", "size password pim key")]:
+                           ("format", "size password pim key"), ("hide", "size password pim key")]:
         parser = commands.add_parser(command)
         parser.add_argument("file")
         for word in words.split():
@@ -246,6 +265,8 @@ def arguments():
         parser.add_argument("--algorithm", choices=ALGORITHMS, default="aes")
         if command == "make":
             parser.add_argument("--zeros", action="store_true")
+        if command in ("format", "hide"):
+            parser.add_argument("--sector", type=int, default=SECTOR)
     return top.parse_args()
 
 
@@ -257,8 +278,13 @@ def main(a):
     if a.command == "make":
         make(a.file, a.size, a.password, a.pim, a.zeros, **how)
     elif a.command == "format":
-        image = formatted(a.size, a.password, a.pim, a.key, **how)
+        image = formatted(a.size, a.password, a.pim, a.key, sector=a.sector, **how)
         with open(a.file, "wb") as file:
+            file.write(image)
+    elif a.command == "hide":
+        with open(a.file, "r+b") as file:
+            image = hidden(file.read(), a.size, a.password, a.pim, a.key, sector=a.sector, **how)
+            file.seek(0)
             file.write(image)
     else:
         plain = read(a.file, a.first, a.count, a.password, a.pim, **how)

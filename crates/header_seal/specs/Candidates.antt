@@ -5,18 +5,19 @@
 --
 -- candidates kind                   the candidates of a kind, by slot, then PRF, then algorithm
 -- plain_body c image p pim          the deciphered body of a candidate
--- IsValidIn c image p pim           the candidate is valid; is_valid_in is the same as a test
+-- IsValidIn c image p pim           the candidate is valid; is_valid_in is the same as a test, by the law
+--                                   `validity_is_decided` of vc_header
 -- first kind image p pim            the first valid candidate, or none
 -- IsFirst o kind image p pim        an opened header is that candidate, with its fields
-use Rattle.std.specs.Prelude.{◌≡◌, ℕ, Bool, true, false, List, [], ◌∷◌, length, map, filter, find, Option, Some}
+use Rattle.std.specs.Prelude.{◌≡◌, ℕ, Bool, List, length, map, find, Option, Some}
 use Rattle.std.specs.List.{flat_map}
 use Rattle.kdf_hmac.specs.declared.prf.Prf.{Prf}
 use Rattle.kdf_hmac.specs.Prfs.{all_prfs}
 use Rattle.algorithm_names.specs.declared.algorithm.Algorithm.{Algorithm}
 use Rattle.algorithm_names.specs.Algorithms.{all_algorithms}
 use Rattle.vc_layout.specs.declared.slots.Slot.{Slot}
-use Rattle.vc_layout.specs.declared.slots.Slot.TheVariants.{Standard, Hidden, BackupStandard, BackupHidden}
-use Rattle.vc_header.specs.Header.{fields_of, is_valid, Valid}
+use Rattle.vc_header.specs.Header.{fields_of, Valid}
+use Rattle.vc_header.specs.Laws.Tests.{is_valid}
 use Rattle.vc_header.specs.declared.fields.Fields.{Fields}
 use Rattle.vc_layout.specs.declared.kind.Kind.{Kind}
 use Rattle.vc_layout.specs.Kinds.{slots_of}
@@ -28,21 +29,13 @@ pub record Candidate : Type 0 where
   pub prf : Prf
   pub algorithm : Algorithm
 
--- So far one slot is built.
-abbrev pub is_built_slot : Slot → Bool
-is_built_slot Standard = true
-is_built_slot Hidden = false
-is_built_slot BackupStandard = false
-is_built_slot BackupHidden = false
-
 -- the candidates of a slot and a PRF
 abbrev pub candidates_of : Slot → Prf → List Candidate
 candidates_of slot prf =
     map (λ algorithm. record { slot = slot; prf = prf; algorithm = algorithm }) all_algorithms
 
 abbrev pub candidates : Kind → List Candidate
-candidates kind =
-    flat_map (λ slot. flat_map (candidates_of slot) all_prfs) (filter is_built_slot (slots_of kind))
+candidates kind = flat_map (λ slot. flat_map (candidates_of slot) all_prfs) (slots_of kind)
 
 abbrev pub plain_body : Candidate → List ℕ → List ℕ → ℕ → List ℕ
 plain_body c image password pim = plain_by c.prf c.algorithm password pim (header_at c.slot image)

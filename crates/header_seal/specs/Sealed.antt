@@ -4,7 +4,6 @@
 -- material is derived from password, PIM and salt, as one stretch under data unit 0.
 --
 -- header_at slot image                  the 512 bytes in a slot
--- salt_of, enciphered_body header       its two parts
 -- unsealed a keys body                  a body deciphered by the algorithm a under derived keys
 -- sealed a keys fields                  the body that is written for fields, enciphered
 -- plain_under a keys header             the body of a header, deciphered
@@ -20,17 +19,11 @@ use Rattle.kdf_hmac.specs.declared.prf.Prf.{Prf}
 use Rattle.kdf_hmac.specs.Pbkdf2.{derived}
 use Rattle.vc_layout.specs.Layout.{place_of}
 use Rattle.vc_layout.specs.declared.slots.Slot.{Slot}
-use Rattle.vc_header.specs.Header.{body_of, fields_of, Meets, Valid}
+use Rattle.vc_header.specs.Header.{body_of, enciphered_body, fields_of, Meets, salt_of, Valid}
 use Rattle.vc_header.specs.declared.fields.Fields.{Fields}
 
 abbrev pub header_at : Slot → List ℕ → List ℕ
 header_at slot image = take 512 (drop (place_of slot (length image)) image)
-
-abbrev pub salt_of : List ℕ → List ℕ
-salt_of header = take 64 header
-
-abbrev pub enciphered_body : List ℕ → List ℕ
-enciphered_body header = drop 64 header
 
 unfoldable pub unsealed : Algorithm → List ℕ → List ℕ → List ℕ
 unsealed algorithm keys body = deciphered (record { algorithm = algorithm; material = keys }) 0 body

@@ -1,6 +1,6 @@
 -- What holds of a body holds of what equals it.
 use Rattle.std.proofs.Common.{◌≡◌, ℕ, List, Bool, true, false, refl, sym, subst, ap, ◌∙◌}
-use Rattle.std.specs.Prelude.{◌↔◌}
+use Rattle.std.specs.Prelude.{◌↔◌, Option, Some, None, IfSome, IsSome}
 use Rattle.vc_layout.specs.declared.slots.Slot.{Slot}
 use Rattle.vc_header.specs.declared.fields.Fields.{Fields}
 use Rattle.vc_header.specs.Header.{Valid, fields_of}
@@ -21,3 +21,8 @@ decided_by found test P h t = ((λ f. t.1 (h.0 f)), (λ e. h.1 (t.0 e)))
 pub false_where_not : (test : Bool) → ((false ≡ true) ↔ (test ≡ true)) → test ≡ false
 false_where_not true h = sym (h.1 refl)
 false_where_not false h = refl
+
+-- what holds if there is something
+pub if_some : {A : Type 0} {P : Type 0} (r : Option A) → (IsSome r → P) → IfSome r (λ _. P)
+if_some None holds = tt
+if_some (Some a) holds = holds refl

@@ -4,3 +4,5 @@ mod Bodies
 mod Finding
 -- opening gives the first valid candidate
 mod First
+-- reads let a crash leave nothing more
+mod Crash

@@ -1,3 +1,5 @@
+-- definitions that only private contracts cite
+pub mod Laws
 -- the definitions of the crates below that the contracts here cite
 pub use Rattle.vc_layout.specs.Layout
 pub use Rattle.vc_layout.specs.Kinds

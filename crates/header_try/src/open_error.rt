@@ -1,6 +1,6 @@
 //! Why no header was opened.
 
-/// Why no header was opened. The container's bytes are as before in every case.
+/// Why no header was opened. The container's bytes are as before in each case.
 #[derive(Clone, Copy, Debug, PartialEq, Eq)]
 pub enum OpenError {
     /// The container has this many bytes, fewer or more than a container may have.

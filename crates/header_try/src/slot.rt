@@ -2,22 +2,23 @@
 ghost use Rattle.std.specs.Prelude.{◌≡◌, ◌≤◌, ◌↔◌, ◌<◌, IsSome, IfSome, IsTrue, IsNone, Option, None, find, option_map};
 ghost use Rattle.algorithm_names.specs.declared.algorithm.Algorithm.{Algorithm};
 ghost use Rattle.algorithm_names.specs.Algorithms.{all_algorithms};
-ghost use Rattle.vc_header.specs.Header.{fields_of, is_valid, Valid};
+ghost use Rattle.vc_header.specs.Header.{fields_of, Valid};
+ghost use Rattle.vc_header.specs.Laws.Tests.{is_valid};
 ghost use Rattle.header_seal.specs.Sealed.{plain_under};
 
 use algorithm_names::Algorithm;
 use header_seal::unseal;
-use vc_header::{Fields, SALT, read_plain, validity_is_decided};
+use vc_header::{BODY, Fields, HEADER, HeaderView, MATERIAL, read_plain, validity_is_decided};
 use vc_layout::Slot;
 
 /// The number of algorithms.
 const ALGORITHMS: u8 = 8;
 
 /// The least algorithm under which a slot's header is valid with these derived keys, with its fields, in a
-/// container of `len` bytes. None where there is none.
+/// container of `len` bytes. None if there is none.
 pub fn try_slot(
-    derived: &[u8; 192],
-    header: &[u8; 512],
+    derived: &[u8; MATERIAL],
+    header: &[u8; HEADER],
     slot: Slot,
     len: u64,
 ) -> Option<(Algorithm, Fields)>
@@ -37,11 +38,11 @@ pub fn try_slot(
     None
 }
 
-// The fields of the header, where it is valid under this algorithm.
+// The fields of the header, if it is valid under this algorithm.
 fn try_algorithm(
     algorithm: Algorithm,
-    derived: &[u8; 192],
-    header: &[u8; 512],
+    derived: &[u8; MATERIAL],
+    header: &[u8; HEADER],
     slot: Slot,
     len: u64,
 ) -> Option<Fields>
@@ -55,8 +56,8 @@ fn try_algorithm(
 }
 
 // The header's body, deciphered.
-fn plain(algorithm: Algorithm, derived: &[u8; 192], header: &[u8; 512]) -> [u8; 448]
+fn plain(algorithm: Algorithm, derived: &[u8; MATERIAL], header: &[u8; HEADER]) -> [u8; BODY]
     ensures { result ≡ plain_under algorithm derived.now header.now }
 {
-    unseal(algorithm, derived, &header[SALT..])
+    unseal(algorithm, derived, HeaderView::new(header).body())
 }

@@ -2,15 +2,17 @@
 --
 -- A number that is read from n bytes alone is the one at their place. Each rule is decided by its test, and
 -- so are all of them together.
-use Rattle.std.proofs.Common.{◌≡◌, ◌≤◌, ℕ, ◌+◌, ◌%◌, ◌==◌, nat_eq, nat_le, ◌&&◌, Bool, IsTrue, Decides, List, take, drop, sym, ◌∙◌, arith, max}
-use Rattle.std.proofs.lemmas.Bool.Decides.{nat_tests, Decides-eqb, Decides-ltb, Decides-and}
+use Rattle.std.proofs.Common.{◌≡◌, ◌≤◌, ℕ, ◌+◌, ◌%◌, ◌==◌, nat_eq, nat_le, ◌&&◌, ◌||◌, Bool, IsTrue, Decides, List, take, drop, sym, ◌∙◌, arith, max}
+use Rattle.std.proofs.lemmas.Bool.Decides.{nat_tests, Decides-eqb, Decides-ltb, Decides-and, Decides-or}
 use Rattle.byteorder.specs.Endian.{big_number}
 use Rattle.byteorder.specs.Numbers.{big_from-take}
+use Rattle.vc_layout.specs.Layout.{IsSectorSize}
 use Rattle.vc_layout.specs.declared.slots.Slot.{Slot}
 use Rattle.vc_layout.specs.declared.slots.Slot.TheVariants.{Standard, Hidden, BackupStandard, BackupHidden}
 use Rattle.vc_header.specs.declared.fields.Fields.{Fields}
 use Rattle.vc_header.specs.Crc.{crc}
-use Rattle.vc_header.specs.Header.{field, fields_of, FitsSlot, Meets, Valid, has_slot_size, meets, is_valid}
+use Rattle.vc_header.specs.Header.{field, fields_of, FitsSlot, Meets, Valid}
+use Rattle.vc_header.specs.Laws.Tests.{is_sector_size, has_slot_size, meets, is_valid}
 
 -- ---- what is read
 
@@ -37,23 +39,29 @@ slot_size_decided Hidden size = Decides-ltb 0 size
 slot_size_decided BackupStandard size = Decides-eqb size 0
 slot_size_decided BackupHidden size = Decides-ltb 0 size
 
+sector_size_decided : (s : ℕ) → Decides (is_sector_size s) (IsSectorSize s)
+sector_size_decided s =
+    let third = Decides-or (s == 2048) (s == 4096) (Decides-eqb s 2048) (Decides-eqb s 4096) in
+    let second = Decides-or (s == 1024) (s == 2048 || s == 4096) (Decides-eqb s 1024) third in
+    Decides-or (s == 512) (s == 1024 || (s == 2048 || s == 4096)) (Decides-eqb s 512) second
+
 -- each rule is tested after those before it
 meets_decided : (f : Fields) (slot : Slot) (len : ℕ) → Decides (meets f slot len) (Meets f slot len)
 meets_decided f slot len =
     let last : ℕ = f.start + max f.volume_size f.hidden_size + 131072 in
     let to_system : Bool = f.flags % 4 == 0 in
-    let to_sector : Bool = to_system && f.sector == 512 in
-    let to_start : Bool = to_sector && f.start % 512 == 0 in
-    let to_size : Bool = to_start && f.volume_size % 512 == 0 in
-    let to_empty : Bool = to_size && nat_le 512 f.volume_size in
+    let to_sector : Bool = to_system && is_sector_size f.sector in
+    let to_start : Bool = to_sector && f.start % f.sector == 0 in
+    let to_size : Bool = to_start && f.volume_size % f.sector == 0 in
+    let to_empty : Bool = to_size && nat_le f.sector f.volume_size in
     let to_headers : Bool = to_empty && nat_le 131072 f.start in
     let to_encrypted : Bool = to_headers && nat_le f.volume_size f.encrypted in
     let to_backups : Bool = to_encrypted && nat_le last len in
     let system = Decides-eqb (f.flags % 4) 0 in
-    let sector = Decides-and to_system (f.sector == 512) system (Decides-eqb f.sector 512) in
-    let start = Decides-and to_sector (f.start % 512 == 0) sector (Decides-eqb (f.start % 512) 0) in
-    let size = Decides-and to_start (f.volume_size % 512 == 0) start (Decides-eqb (f.volume_size % 512) 0) in
-    let empty = Decides-and to_size (nat_le 512 f.volume_size) size (Decides-le 512 f.volume_size) in
+    let sector = Decides-and to_system (is_sector_size f.sector) system (sector_size_decided f.sector) in
+    let start = Decides-and to_sector (f.start % f.sector == 0) sector (Decides-eqb (f.start % f.sector) 0) in
+    let size = Decides-and to_start (f.volume_size % f.sector == 0) start (Decides-eqb (f.volume_size % f.sector) 0) in
+    let empty = Decides-and to_size (nat_le f.sector f.volume_size) size (Decides-le f.sector f.volume_size) in
     let headers = Decides-and to_empty (nat_le 131072 f.start) empty (Decides-le 131072 f.start) in
     let encrypted = Decides-and to_headers (nat_le f.volume_size f.encrypted) headers (Decides-le f.volume_size f.encrypted) in
     let backups = Decides-and to_encrypted (nat_le last len) encrypted (Decides-le last len) in

@@ -18,7 +18,7 @@ use Rattle.vc_header.proofs.Reflected.{reflected_below}
 -- ---- a part at its place
 
 -- what stood between done and rest goes, and the part comes
-put_between : (done gone rest part old new : List ℕ) {at : ℕ} → old ≡ done ++ (gone ++ rest)
+pub put_between : (done gone rest part old new : List ℕ) {at : ℕ} → old ≡ done ++ (gone ++ rest)
     → length done ≡ at → length gone ≡ length part
     → new ≡ take at old ++ part ++ drop (at + length part) old → new ≡ done ++ part ++ rest
 put_between done gone rest part old new {at} whole count size put =

@@ -1,20 +1,33 @@
--- The deciphered body of a header: its fields, how it is written, and when it is valid.
+-- A header's parts, the fields of its deciphered body, how a body is written, and when it is valid.
 --
 -- A header has 512 bytes: 64 of salt, then the 448 bytes of the body. Offsets are those in the header,
 -- so the body begins at 64. Numbers are big-endian. docs/FORMAT.md, "Header", has the table.
 --
+-- salt_of, enciphered_body header   its two parts
+-- keys_field header       the last 256 bytes of the body: the master keys and zeros
 -- field at n body         the number of n bytes at an offset
 -- fields_of body          the fields of a body
 -- body_of f               the body that is written for fields
 -- Meets f slot len        the fields meet the rules for a slot of a container of len bytes
 -- Valid body slot len     the body is valid for that slot and length: magic, version, checksums, fields
--- is_valid body slot len  the same as a test
-use Rattle.std.specs.Prelude.{◌≡◌, ◌≤◌, ◌<◌, ◌==◌, ◌&&◌, nat_le, nat_lt, ℕ, ◌+◌, ◌-◌, ◌%◌, Bool, List, [], ◌∷◌, ◌++◌, take, drop, max, replicate}
+use Rattle.std.specs.Prelude.{◌≡◌, ◌≤◌, ◌<◌, ℕ, ◌+◌, ◌-◌, ◌%◌, List, [], ◌∷◌, ◌++◌, take, drop, max, replicate}
 use Rattle.byteorder.specs.Endian.{big_number, big_bytes}
+use Rattle.vc_layout.specs.Layout.{IsSectorSize}
 use Rattle.vc_layout.specs.declared.slots.Slot.{Slot}
 use Rattle.vc_layout.specs.declared.slots.Slot.TheVariants.{Standard, Hidden, BackupStandard, BackupHidden}
 use Rattle.vc_header.specs.declared.fields.Fields.{Fields}
 use Rattle.vc_header.specs.Crc.{crc}
+
+abbrev pub salt_of : List ℕ → List ℕ
+salt_of header = take 64 header
+
+abbrev pub enciphered_body : List ℕ → List ℕ
+enciphered_body header = drop 64 header
+
+abbrev pub keys_field : List ℕ → List ℕ
+keys_field header = drop 256 header
+
+-- ---- what is read
 
 abbrev pub field : ℕ → ℕ → List ℕ → ℕ
 field at n body = big_number n (drop (at - 64) body)
@@ -66,10 +79,10 @@ FitsSlot BackupHidden hidden_size = 0 < hidden_size
 
 pub record Meets (f : Fields) (slot : Slot) (len : ℕ) : Type 0 where
   pub no_system : f.flags % 4 ≡ 0  -- bit 0: system encryption, bit 1: encrypted in place
-  pub sector : f.sector ≡ 512
-  pub start_whole : f.start % 512 ≡ 0
-  pub size_whole : f.volume_size % 512 ≡ 0
-  pub not_empty : 512 ≤ f.volume_size
+  pub sector : IsSectorSize f.sector
+  pub start_whole : f.start % f.sector ≡ 0
+  pub size_whole : f.volume_size % f.sector ≡ 0
+  pub not_empty : f.sector ≤ f.volume_size
   pub behind_headers : 131072 ≤ f.start
   pub encrypted : f.volume_size ≤ f.encrypted
   pub before_backups : f.start + max f.volume_size f.hidden_size + 131072 ≤ len
@@ -81,23 +94,3 @@ pub record Valid (body : List ℕ) (slot : Slot) (len : ℕ) : Type 0 where
   pub keys_checksum : field 72 4 body ≡ crc (drop 192 body)
   pub fields_checksum : field 252 4 body ≡ crc (take 188 body)
   pub fields : Meets (fields_of body) slot len
-
--- ---- the same as tests
-
-abbrev pub has_slot_size : Slot → ℕ → Bool
-has_slot_size Standard hidden_size = hidden_size == 0
-has_slot_size Hidden hidden_size = nat_lt 0 hidden_size
-has_slot_size BackupStandard hidden_size = hidden_size == 0
-has_slot_size BackupHidden hidden_size = nat_lt 0 hidden_size
-
-abbrev pub meets : Fields → Slot → ℕ → Bool
-meets f slot len =
-    f.flags % 4 == 0 && f.sector == 512 && f.start % 512 == 0 && f.volume_size % 512 == 0
-    && nat_le 512 f.volume_size && nat_le 131072 f.start && nat_le f.volume_size f.encrypted
-    && nat_le (f.start + max f.volume_size f.hidden_size + 131072) len && has_slot_size slot f.hidden_size
-
-unfoldable pub is_valid : List ℕ → Slot → ℕ → Bool
-is_valid body slot len =
-    field 64 4 body == 0x56455241 && field 68 2 body == 5
-    && field 72 4 body == crc (drop 192 body) && field 252 4 body == crc (take 188 body)
-    && meets (fields_of body) slot len

@@ -2,20 +2,13 @@
 ghost use Rattle.std.specs.Prelude.{◌≡◌, ◌≤◌, ◌↔◌, ℕ, IsTrue, IsSome, IfSome, List, take, drop, length, ◌+◌, ◌^◌, ◌<◌, ◌++◌};
 ghost use Rattle.vc_layout.specs.declared.slots.Slot.{Slot};
 ghost use Rattle.vc_header.specs.Crc.{crc};
-ghost use Rattle.vc_header.specs.Header.{body_of, field, fields_of, fields_part, is_valid, keys_part, Meets, Valid};
+ghost use Rattle.vc_header.specs.Header.{body_of, field, fields_of, fields_part, keys_part, Meets, Valid};
+ghost use Rattle.vc_header.specs.Laws.Tests.{is_valid};
 
 use crate::checksum::crc32;
+use crate::view::BODY;
 use byteorder::{BigEndian, ByteOrder};
-use vc_layout::{GROUP, SECTOR, Slot};
-
-/// The length of a header.
-pub const HEADER: usize = 512;
-
-/// The length of a header's salt, which begins it.
-pub const SALT: usize = 64;
-
-/// The length of a header's body, which is enciphered.
-pub const BODY: usize = HEADER - SALT;
+use vc_layout::{GROUP, Slot, is_sector_size};
 
 /// The length of the master keys that a header keeps.
 pub const MATERIAL: usize = 192;
@@ -36,18 +29,18 @@ pub struct Fields {
     /// The size of a sector.
     pub sector: u32,
     /// The master keys.
-    pub material: [u8; 192],
+    pub material: [u8; MATERIAL],
 }
 
 /// The body that is written for fields, before it is enciphered.
-pub fn write_plain(f: &Fields) -> [u8; 448]
+pub fn write_plain(f: &Fields) -> [u8; BODY]
     ensures body { result ≡ body_of f.now }
     // What was written is read again: it has the same fields, and it is valid where they meet the rules.
     ensures again { fields_of result ≡ f.now }
     ensures valid { (slot : Slot) (len : ℕ) → Meets f.now slot len → Valid result slot len }
 {
     ranges_are_known(f);
-    let mut body = [0u8; 448];
+    let mut body = [0u8; BODY];
     put(&mut body, at::KEYS, &f.material);
     let fields = fields_bytes(f, crc32(&body[at::KEYS..]));
     put(&mut body, 0, &fields);
@@ -57,7 +50,7 @@ pub fn write_plain(f: &Fields) -> [u8; 448]
 }
 
 /// The fields of a deciphered body, where it is valid for the slot in a container of `len` bytes.
-pub fn read_plain(plain: &[u8; 448], slot: Slot, len: u64) -> Option<Fields>
+pub fn read_plain(plain: &[u8; BODY], slot: Slot, len: u64) -> Option<Fields>
     requires { 262656 ≤ len }
     ensures valid { IsSome result ↔ Valid plain.now slot len }
     ensures fields { IfSome result (λ f. f ≡ fields_of plain.now) }
@@ -136,7 +129,7 @@ fn fields_bytes(f: &Fields, keys: u32) -> [u8; 188]
 }
 
 // Writes a part at its place.
-fn put(bytes: &mut [u8], at: usize, part: &[u8])
+pub(crate) fn put(bytes: &mut [u8], at: usize, part: &[u8])
     requires { at + length part.now ≤ length bytes.old }
     ensures { bytes.new ≡ take at bytes.old ++ part.now ++ drop (at + length part.now) bytes.old }
 {
@@ -161,7 +154,7 @@ fn ranges_are_known(f: &Fields)
 }
 
 // Magic and version are right.
-fn is_marked(plain: &[u8; 448]) -> bool
+fn is_marked(plain: &[u8; BODY]) -> bool
     ensures { IsTrue result ↔ (field 64 4 plain.now ≡ 0x56455241) × (field 68 2 plain.now ≡ 5) }
 {
     BigEndian::read_u32(&plain[at::MAGIC..]) == MAGIC
@@ -169,7 +162,7 @@ fn is_marked(plain: &[u8; 448]) -> bool
 }
 
 // Both checksums are right. The one over the fields is tested first, since it is shorter.
-fn has_checksums(plain: &[u8; 448]) -> bool
+fn has_checksums(plain: &[u8; BODY]) -> bool
     ensures { IsTrue result ↔ (field 72 4 plain.now ≡ crc (drop 192 plain.now))
         × (field 252 4 plain.now ≡ crc (take 188 plain.now)) }
 {
@@ -177,7 +170,7 @@ fn has_checksums(plain: &[u8; 448]) -> bool
         && BigEndian::read_u32(&plain[at::KEYS_CHECKSUM..]) == crc32(&plain[at::KEYS..])
 }
 
-fn all_fields(plain: &[u8; 448]) -> Fields
+fn all_fields(plain: &[u8; BODY]) -> Fields
     ensures { result ≡ fields_of plain.now }
 {
     let mut material = [0u8; MATERIAL];
@@ -199,10 +192,10 @@ fn meets_rules(f: &Fields, slot: Slot, len: u64) -> bool
 {
     let hidden = matches!(slot, Slot::Hidden | Slot::BackupHidden);
     f.flags & 3 == 0
-        && u64::from(f.sector) == SECTOR
-        && f.start % SECTOR == 0
-        && f.volume_size % SECTOR == 0
-        && f.volume_size >= SECTOR
+        && is_sector_size(f.sector)
+        && f.start % u64::from(f.sector) == 0
+        && f.volume_size % u64::from(f.sector) == 0
+        && f.volume_size >= u64::from(f.sector)
         && f.start >= GROUP
         && f.encrypted >= f.volume_size
         && f.start <= len - GROUP

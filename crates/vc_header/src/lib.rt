@@ -9,9 +9,11 @@
 #![tactic(auto)]
 
 pub use checksum::crc32;
-pub use fields::{
-    BODY, Fields, HEADER, MATERIAL, SALT, read_plain, validity_is_decided, write_plain,
-};
+pub use fields::{Fields, MATERIAL, read_plain, validity_is_decided, write_plain};
+pub use view::{BODY, HEADER, HeaderView, SALT, header_of};
+pub use volume::{geometry_of, protect_of};
 
 pub mod checksum;
 pub mod fields;
+pub mod view;
+pub mod volume;

@@ -2,19 +2,18 @@
 ghost use Rattle.std.specs.Prelude.{◌≡◌, ◌≤◌, ◌↔◌, IsTrue};
 ghost use Rattle.vc_layout.specs.Layout.{place_of, slot_name, IsContainerLength};
 
+use crate::sector::DATA_UNIT;
+
 /// The length of a header group, one at each end of a container.
 pub const GROUP: u64 = 131_072;
 
-/// The length of a sector and of a data unit.
-pub const SECTOR: u64 = 512;
-
-/// The shortest container: two header groups and one sector between them.
-pub const SHORTEST: u64 = 2 * GROUP + SECTOR;
+/// The shortest container that is opened: two header groups and one of the smallest sectors.
+pub const SHORTEST: u64 = 2 * GROUP + DATA_UNIT;
 
 /// The longest container that is opened.
 pub const LONGEST: u64 = 1 << 60;
 
-/// One of the four places for a header. Standard and Hidden stand at the container's begin, their
+/// One of the four places for a header. Standard and Hidden are at the container's start, their
 /// backups in the same order at its end.
 #[derive(Clone, Copy, Debug, PartialEq, Eq)]
 pub enum Slot {
@@ -63,7 +62,7 @@ mod tests {
     use super::*;
 
     #[test]
-    fn slots_stand_at_both_ends(rt: HostRuntime) {
+    fn slots_are_at_both_ends(rt: HostRuntime) {
         // by hand, for a container of 1 MiB
         let rows = [
             (Slot::Standard, 0),

@@ -6,7 +6,9 @@ mod Writes
 mod Parts
 -- the image of a formatted container
 mod Images
--- opening a formatted container
+-- opening a new volume
 mod Opening
 -- from what each step makes to what the image is
 mod Making
+-- the image with a hidden volume
+mod HiddenImages

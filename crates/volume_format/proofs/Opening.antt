@@ -1,28 +1,35 @@
--- Opening a formatted container.
+-- Opening a new volume.
 --
--- The candidates of the standard slot stand in the order of their numbers. So the first that is
--- valid is one that is known to be valid, or stands before it.
-use Rattle.std.proofs.Common.{◌≡◌, ◌<◌, ◌≤◌, ◌⊎◌, inl, inr, ℕ, zero, suc, ◌+◌, ◌*◌, Bool, true, false, List, [], ◌∷◌, Option, Some, refl, ap, ◌∙◌, arith}
+-- The candidates of a slot are in the order of their numbers. So the first that is valid is one that
+-- is known to be valid, or is before it.
+use Rattle.std.proofs.Common.{◌≡◌, ◌<◌, ◌≤◌, ◌⊎◌, inl, inr, ℕ, zero, suc, ◌+◌, ◌*◌, Bool, true, false, List, [], ◌∷◌, ◌++◌, Option, Some, refl, ap, ◌∙◌, arith}
+use Rattle.std.specs.List.{flat_map}
 use Rattle.std.specs.Prelude.{find, slice_get, unwrap_or, if◌then◌else◌}
 use Rattle.kdf_hmac.specs.declared.prf.Prf.{Prf}
 use Rattle.kdf_hmac.specs.declared.prf.Prf.TheVariants.{Sha512, Sha256}
 use Rattle.algorithm_names.specs.Algorithms.{number_of}
 use Rattle.algorithm_names.specs.declared.algorithm.Algorithm.{Algorithm}
 use Rattle.algorithm_names.specs.declared.algorithm.Algorithm.TheVariants.{Aes, Serpent, Twofish, AesTwofish, AesTwofishSerpent, SerpentAes, SerpentTwofishAes, TwofishSerpent}
-use Rattle.vc_layout.specs.declared.slots.Slot.TheVariants.{Standard}
+use Rattle.kdf_hmac.specs.Prfs.{all_prfs}
+use Rattle.vc_layout.specs.Kinds.{slots_of}
+use Rattle.vc_layout.specs.declared.kind.Kind.{Kind}
+use Rattle.vc_layout.specs.declared.slots.Slot.{Slot}
 use Rattle.vc_header.specs.declared.fields.Fields.{Fields}
-use Rattle.vc_layout.specs.declared.kind.Kind.TheVariants.{StandardOnly}
-use Rattle.header_seal.specs.Candidates.{Candidate, candidates, fields_in, first, is_valid_in}
+use Rattle.header_seal.specs.Candidates.{Candidate, candidates_of, fields_in, first, is_valid_in}
+use Rattle.volume_format.specs.Formatted.{Sealing}
 use Rattle.volume_format.specs.Opens.{asked, order_of, prf_order, Opens}
-use Rattle.volume_format.specs.declared.outer.FormatSpec.{FormatSpec}
 
 -- the orders of these candidates are n, n + 1, and so on
 abbrev Ordered : ℕ → List Candidate → Type 0
 Ordered n [] = Unit {0}
 Ordered n (c ∷ cs) = (order_of c ≡ n) × Ordered (suc n) cs
 
-in_order : Ordered 0 (candidates StandardOnly)
-in_order = (
+-- the candidates of a kind with one slot
+abbrev of_one : Slot → List Candidate
+of_one slot = flat_map (candidates_of slot) all_prfs ++ []
+
+in_order : (slot : Slot) → Ordered 0 (of_one slot)
+in_order slot = (
   refl,
   (
     refl,
@@ -104,44 +111,46 @@ found t n (c ∷ cs) (suc i) x ordered at passes =
     (found t (suc n) cs i x ordered.1 at passes)
 
 -- the asked candidate is one of them
-asked_at : (prf : Prf) (a : Algorithm)
-    → slice_get (candidates StandardOnly) (8 * prf_order prf + number_of a) ≡ Some
-    (record { slot = Standard; prf = prf; algorithm = a })
-asked_at Sha512 Aes = refl
-asked_at Sha512 Serpent = refl
-asked_at Sha512 Twofish = refl
-asked_at Sha512 AesTwofish = refl
-asked_at Sha512 AesTwofishSerpent = refl
-asked_at Sha512 SerpentAes = refl
-asked_at Sha512 SerpentTwofishAes = refl
-asked_at Sha512 TwofishSerpent = refl
-asked_at Sha256 Aes = refl
-asked_at Sha256 Serpent = refl
-asked_at Sha256 Twofish = refl
-asked_at Sha256 AesTwofish = refl
-asked_at Sha256 AesTwofishSerpent = refl
-asked_at Sha256 SerpentAes = refl
-asked_at Sha256 SerpentTwofishAes = refl
-asked_at Sha256 TwofishSerpent = refl
+asked_at : (slot : Slot) (prf : Prf) (a : Algorithm)
+    → slice_get (of_one slot) (8 * prf_order prf + number_of a) ≡ Some
+    (record { slot = slot; prf = prf; algorithm = a })
+asked_at slot Sha512 Aes = refl
+asked_at slot Sha512 Serpent = refl
+asked_at slot Sha512 Twofish = refl
+asked_at slot Sha512 AesTwofish = refl
+asked_at slot Sha512 AesTwofishSerpent = refl
+asked_at slot Sha512 SerpentAes = refl
+asked_at slot Sha512 SerpentTwofishAes = refl
+asked_at slot Sha512 TwofishSerpent = refl
+asked_at slot Sha256 Aes = refl
+asked_at slot Sha256 Serpent = refl
+asked_at slot Sha256 Twofish = refl
+asked_at slot Sha256 AesTwofish = refl
+asked_at slot Sha256 AesTwofishSerpent = refl
+asked_at slot Sha256 SerpentAes = refl
+asked_at slot Sha256 SerpentTwofishAes = refl
+asked_at slot Sha256 TwofishSerpent = refl
 
-pub opens : (spec : FormatSpec) (f : Fields) (image : List ℕ)
-    → is_valid_in (asked spec) image spec.password spec.pim ≡ true
-    → fields_in (asked spec) image spec.password spec.pim ≡ f
-    → Opens spec f image
+pub opens : (kind : Kind) (slot : Slot) (k : Sealing) (f : Fields) (image : List ℕ) → slots_of kind ≡ slot ∷ []
+    → is_valid_in (asked slot k) image k.password k.pim ≡ true
+    → fields_in (asked slot k) image k.password k.pim ≡ f
+    → Opens kind slot k f image
 unfolding first
-opens spec f image valid fields =
-    let r : Found (λ c. is_valid_in c image spec.password spec.pim) (candidates StandardOnly)
-    (asked spec)
-    = found (λ c. is_valid_in c image spec.password spec.pim) 0 (candidates StandardOnly)
-    (order_of (asked spec)) (asked spec)
-    in_order (asked_at spec.prf spec.algorithm) valid in
+opens kind slot k f image one valid fields =
+    let r : Found (λ c. is_valid_in c image k.password k.pim) (of_one slot) (asked slot k)
+    = found (λ c. is_valid_in c image k.password k.pim) 0 (of_one slot)
+    (order_of (asked slot k)) (asked slot k)
+    (in_order slot) (asked_at slot k.prf k.algorithm) valid in
     record {
       candidate = r.candidate;
-      is_first = r.is_first;
+      is_first =
+          ap (λ (slots : List Slot). find (λ c. is_valid_in c image k.password k.pim)
+          (flat_map (λ s. flat_map (candidates_of s) all_prfs) slots)) one
+          ∙ r.is_first;
       which = elim r.which [
         | inl e ↦ inl (record {
           candidate = e;
-          fields = ap (λ (c : Candidate). fields_in c image spec.password spec.pim) e ∙ fields;
+          fields = ap (λ (c : Candidate). fields_in c image k.password k.pim) e ∙ fields;
         })
         | inr before ↦ inr before
       ];

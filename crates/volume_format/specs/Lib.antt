@@ -2,5 +2,9 @@
 pub mod Stream
 -- a formatted container
 pub mod Formatted
--- what opens a formatted container
+-- a container with a new hidden volume
+pub mod Hidden
+-- what opens a new volume
 pub mod Opens
+-- definitions that only private contracts cite
+pub mod Laws

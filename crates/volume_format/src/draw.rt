@@ -1,7 +1,7 @@
-//! What is drawn from the random stream: bytes in order, salts out of order, and the master keys.
-ghost use Rattle.std.specs.Prelude.{◌≡◌, ◌-◌, ◌*◌, ◌%◌, ◌++◌, length, replicate};
-ghost use Rattle.algorithm_names.specs.Algorithms.{ciphers_of};
+//! What is drawn from the random stream: bytes, salts in order and out of order, and the master keys.
+ghost use Rattle.std.specs.Prelude.{◌≡◌, ◌%◌, length};
 ghost use Rattle.volume_format.specs.Stream.{advanced, stream_bytes};
+ghost use Rattle.volume_format.specs.Formatted.{key_bytes, material_of};
 
 use algorithm_names::Algorithm;
 use rand_chacha::ChaCha20Rng;
@@ -24,8 +24,18 @@ pub(crate) fn draw(rng: &mut ChaCha20Rng, bytes: &mut [u8])
     fill_bytes_via_u32(rng, bytes);
 }
 
-/// The salt that stands at byte `at` of the stream. The generator keeps its place.
-pub(crate) fn salt_at(rng: &mut ChaCha20Rng, at: u64) -> [u8; 64]
+/// The next bytes of the stream as a salt.
+pub(crate) fn next_salt(rng: &mut ChaCha20Rng) -> [u8; SALT]
+    ensures salt { result ≡ stream_bytes rng.old 0 64 }
+    ensures drawn { rng.new ≡ advanced rng.old 64 }
+{
+    let mut salt = [0u8; SALT];
+    draw(rng, &mut salt);
+    salt
+}
+
+/// The salt that is at byte `at` of the stream. The generator keeps its place.
+pub(crate) fn salt_at(rng: &mut ChaCha20Rng, at: u64) -> [u8; SALT]
     ensures salt { result ≡ stream_bytes rng.old at 64 }
     ensures rng { rng.new ≡ rng.old }
 {
@@ -38,10 +48,9 @@ pub(crate) fn salt_at(rng: &mut ChaCha20Rng, at: u64) -> [u8; 64]
 }
 
 /// The next bytes of the stream as master keys, then zeros.
-pub(crate) fn key_material(rng: &mut ChaCha20Rng, algorithm: Algorithm) -> [u8; 192]
-    ensures material { let n = 64 * length (ciphers_of algorithm) in
-        result ≡ stream_bytes rng.old 0 n ++ replicate (192 - n) 0 }
-    ensures drawn { rng.new ≡ advanced rng.old (64 * length (ciphers_of algorithm)) }
+pub(crate) fn key_material(rng: &mut ChaCha20Rng, algorithm: Algorithm) -> [u8; MATERIAL]
+    ensures material { result ≡ material_of rng.old 0 algorithm }
+    ensures drawn { rng.new ≡ advanced rng.old (key_bytes algorithm) }
 {
     let count = CIPHER_KEYS * usize::from(algorithm.ciphers());
     let mut material = [0u8; MATERIAL];

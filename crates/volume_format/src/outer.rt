@@ -3,16 +3,19 @@ ghost use Rattle.std.specs.Prelude.{◌≡◌, ◌≤◌, ◌+◌, ◌↔◌, Er
 ghost use Rattle.vc_base.specs.Faults.{HasCause};
 ghost use Rattle.vc_layout.specs.Layout.{IsFormattable};
 ghost use Rattle.vc_layout.specs.declared.slots.Slot.TheVariants.{Standard, BackupStandard};
+ghost use Rattle.vc_layout.specs.declared.kind.Kind.TheVariants.{StandardOnly};
 ghost use Rattle.vc_header.specs.Header.{Meets};
 ghost use Rattle.vc_outside.specs.Crash.{IsLasting};
 ghost use Rattle.vc_outside.specs.Told.{Both};
 ghost use Rattle.volume_format.specs.Stream.{advanced};
-ghost use Rattle.volume_format.specs.Formatted.{formatted, HasHeader, key_bytes, material_of, outer_fields};
-ghost use Rattle.volume_format.specs.Opens.{HasValid, IsFormatted, Opens};
+ghost use Rattle.volume_format.specs.Formatted.{formatted, key_bytes, material_of, outer_fields, sealing_of};
+ghost use Rattle.volume_format.specs.Opens.{HasBothHeaders};
+ghost use Rattle.volume_format.specs.Laws.Made.{IsFormatted};
 
 use crate::draw::{key_material, salt_at};
 use crate::fill::fill;
-use crate::header::{outer_fields, write_header};
+use crate::format_error::FormatError;
+use crate::header::{outer_fields, write_body};
 use algorithm_names::Algorithm;
 use header_seal::headers_open_again;
 use kdf_hmac::{Password, Prf};
@@ -21,7 +24,8 @@ use vc_header::validity_is_decided;
 use vc_layout::{Slot, outer_of, slot_at};
 use vc_outside::{Failed, OutError, Store};
 
-/// What a new outer volume is to be. The size is the container's, in bytes; a PIM of 0 is none.
+/// What a new outer volume is to be. The size is the container's, in bytes, and the sector's size that of the
+/// volume; a PIM of 0 is none.
 #[derive(Drop)]
 pub struct FormatSpec {
     pub password: Password,
@@ -29,17 +33,7 @@ pub struct FormatSpec {
     pub prf: Prf,
     pub algorithm: Algorithm,
     pub size: u64,
-}
-
-/// Why no container was formatted.
-#[derive(Clone, Copy, Debug, PartialEq, Eq)]
-pub enum FormatError {
-    /// No container of the asked size is formatted. Nothing changed.
-    BadSize,
-    /// The container failed. It holds nothing of use.
-    WriteFault,
-    /// Memory ran out, for the container's length. Nothing changed.
-    NoMemory,
+    pub sector: u32,
 }
 
 /// Makes the container one with a new outer volume: sets its length, fills it from the random
@@ -51,30 +45,24 @@ pub fn format_outer<D: Store>(
 ) -> Result<(), FormatError>
     requires { spec.now.pim ≤ 2147468 }
 
-    // What is made, where the store tells its bytes.
+    // What is made, if the store's contents are known.
     ensures formatted { OnOk result (Both (D.image disk.old) (D.image disk.new) (λ _ b.
         b ≡ formatted rng.old spec.now)) }
     ensures size { OnOk result (D.size disk.new ≡ spec.now.size) }
     ensures lasting { OnOk result (IsLasting D.tells (D.image disk.new) (D.may_leave disk.new)) }
-    ensures drawn { OnOk result (rng.new ≡ advanced rng.old (spec.now.size + key_bytes spec.now)) }
+    ensures drawn { OnOk result (rng.new ≡ advanced rng.old (spec.now.size + key_bytes spec.now.algorithm)) }
 
     // Both headers open it.
-    ensures standard { OnOk result (Both (D.image disk.old) (D.image disk.new) (λ _ b.
-        HasHeader b Standard spec.now (outer_fields spec.now (material_of rng.old spec.now)))) }
-    ensures backup { OnOk result (Both (D.image disk.old) (D.image disk.new) (λ _ b.
-        HasHeader b BackupStandard spec.now (outer_fields spec.now (material_of rng.old spec.now)))) }
-    ensures valid { OnOk result (Both (D.image disk.old) (D.image disk.new) (λ _ b.
-        HasValid spec.now Standard b)) }
-    ensures valid_backup { OnOk result (Both (D.image disk.old) (D.image disk.new) (λ _ b.
-        HasValid spec.now BackupStandard b)) }
-    ensures opens { OnOk result (Both (D.image disk.old) (D.image disk.new) (λ _ b.
-        Opens spec.now (outer_fields spec.now (material_of rng.old spec.now)) b)) }
+    ensures headers { OnOk result (Both (D.image disk.old) (D.image disk.new) (λ _ b.
+        HasBothHeaders StandardOnly Standard BackupStandard (sealing_of spec.now)
+        (outer_fields spec.now (material_of rng.old spec.now.size spec.now.algorithm)) b)) }
     ensures meets { OnOk result (
-        Meets (outer_fields spec.now (material_of rng.old spec.now)) Standard spec.now.size
-        × Meets (outer_fields spec.now (material_of rng.old spec.now)) BackupStandard spec.now.size) }
+        Meets (outer_fields spec.now (material_of rng.old spec.now.size spec.now.algorithm)) Standard spec.now.size
+        × Meets (outer_fields spec.now (material_of rng.old spec.now.size spec.now.algorithm)) BackupStandard spec.now.size) }
 
     // Why it is refused, and what is then as before.
-    ensures bad_size { result ≡ Err FormatError.BadSize ↔ ¬ IsFormattable spec.now.size }
+    ensures formattable { OnOk result (IsFormattable spec.now.size spec.now.sector) }
+    ensures bad_size { result ≡ Err FormatError.BadSize ↔ ¬ IsFormattable spec.now.size spec.now.sector }
     ensures nothing_changed { result ≡ Err FormatError.BadSize → disk.new ≡ disk.old }
     ensures nothing_drawn { result ≡ Err FormatError.BadSize → rng.new ≡ rng.old }
     ensures same_image { result ≡ Err FormatError.NoMemory → D.image disk.new ≡ D.image disk.old }
@@ -83,7 +71,7 @@ pub fn format_outer<D: Store>(
     ensures cause { HasCause (D.faults disk.old) (D.faults disk.new)
         (IsErrOf result FormatError.WriteFault) }
 {
-    let Some(_outer) = outer_of(spec.size) else {
+    let Some(_outer) = outer_of(spec.size, spec.sector) else {
         return Err(FormatError::BadSize);
     };
     match disk.set_len(spec.size) {
@@ -99,13 +87,13 @@ pub fn format_outer<D: Store>(
 // Writes the volume into a container of the asked size, and makes it last.
 fn make<D: Store>(disk: &mut D, rng: &mut ChaCha20Rng, spec: &FormatSpec) -> Result<(), Failed>
     requires pim { spec.now.pim ≤ 2147468 }
-    requires formattable { IsFormattable spec.now.size }
+    requires formattable { IsFormattable spec.now.size spec.now.sector }
     requires size { D.size disk.old ≡ spec.now.size }
     ensures written { OnOk result (Both (D.image disk.old) (D.image disk.new) (λ _ b.
         IsFormatted rng.old spec.now b)) }
     ensures size { D.size disk.new ≡ spec.now.size }
     ensures lasting { OnOk result (IsLasting D.tells (D.image disk.new) (D.may_leave disk.new)) }
-    ensures drawn { OnOk result (rng.new ≡ advanced rng.old (spec.now.size + key_bytes spec.now)) }
+    ensures drawn { OnOk result (rng.new ≡ advanced rng.old (spec.now.size + key_bytes spec.now.algorithm)) }
     ensures cause { HasCause (D.faults disk.old) (D.faults disk.new) (IsErr result) }
 {
     write_volume(disk, rng, spec)?;
@@ -114,19 +102,19 @@ fn make<D: Store>(disk: &mut D, rng: &mut ChaCha20Rng, spec: &FormatSpec) -> Res
 }
 
 // Fills a container of the asked size and writes both headers. The salts are the bytes of the fill
-// that stand in their slots; the master keys are drawn after it.
+// in their slots; the master keys are drawn after it.
 fn write_volume<D: Store>(
     disk: &mut D,
     rng: &mut ChaCha20Rng,
     spec: &FormatSpec,
 ) -> Result<(), Failed>
     requires pim { spec.now.pim ≤ 2147468 }
-    requires formattable { IsFormattable spec.now.size }
+    requires formattable { IsFormattable spec.now.size spec.now.sector }
     requires size { D.size disk.old ≡ spec.now.size }
     ensures written { OnOk result (Both (D.image disk.old) (D.image disk.new) (λ _ b.
         IsFormatted rng.old spec.now b)) }
     ensures size { D.size disk.new ≡ spec.now.size }
-    ensures drawn { OnOk result (rng.new ≡ advanced rng.old (spec.now.size + key_bytes spec.now)) }
+    ensures drawn { OnOk result (rng.new ≡ advanced rng.old (spec.now.size + key_bytes spec.now.algorithm)) }
     ensures cause { HasCause (D.faults disk.old) (D.faults disk.new) (IsErr result) }
 {
     headers_open_again();
@@ -136,7 +124,7 @@ fn write_volume<D: Store>(
     fill(disk, rng, spec.size)?;
     let material = key_material(rng, spec.algorithm);
     let fields = outer_fields(spec, material);
-    write_header(disk, spec, Slot::Standard, &salt, &fields)?;
-    write_header(disk, spec, Slot::BackupStandard, &backup_salt, &fields)?;
+    write_body(disk, spec, Slot::Standard, &salt, &fields)?;
+    write_body(disk, spec, Slot::BackupStandard, &backup_salt, &fields)?;
     Ok(())
 }

@@ -3,7 +3,7 @@ use Rattle.std.proofs.lemmas.List.{take_all}
 use Rattle.algorithm_names.specs.declared.algorithm.Algorithm.{Algorithm}
 use Rattle.std.specs.Prelude.{slice_get}
 use Rattle.algorithm_names.specs.Algorithms.{all_algorithms}
-use Rattle.vc_header.specs.Header.{is_valid}
+use Rattle.vc_header.specs.Laws.Tests.{is_valid}
 use Rattle.header_seal.specs.Sealed.{plain_under}
 use Rattle.header_try.proofs.Bodies.{false_where_not}
 use Rattle.header_try.proofs.Finding.{algorithm_at, found_here, not_yet}

@@ -1,6 +1,6 @@
 use Rattle.std.proofs.Common.{◌≡◌, None, find, take}
 use Rattle.algorithm_names.specs.Algorithms.{all_algorithms}
-use Rattle.vc_header.specs.Header.{is_valid}
+use Rattle.vc_header.specs.Laws.Tests.{is_valid}
 use Rattle.header_seal.specs.Sealed.{plain_under}
 use Rattle.header_try.proofs.slot.try_slot.Given as goal
 

@@ -4,17 +4,21 @@ use Rattle.volume_format.specs.Stream.{advanced, stream_bytes}
 use Rattle.volume_format.proofs.Making.{cause_after, fields_are, filled_from, made}
 use Rattle.volume_format.proofs.outer.write_volume.Goals as goal
 
-pub returns-in_err-write_header-2-clause-cause : goal.returns-in_err-write_header-2-clause-cause
-returns-in_err-write_header-2-clause-cause g c =
+pub returns-in_err-write_body-clause-cause : goal.returns-in_err-write_body-clause-cause
+returns-in_err-write_body-clause-cause g c =
+    cause_after _ _ _ _ _ (omega (arith, c.fill.ensures.cause.later)) c.in_err-write_body.ensures.cause (λ _. refl)
+
+pub returns-in_err-write_body-2-clause-cause : goal.returns-in_err-write_body-2-clause-cause
+returns-in_err-write_body-2-clause-cause g c =
     cause_after _ _ _ _ _
-    (omega (arith, c.fill.ensures.cause.later, c.write_header.ensures.cause.later))
-    c.in_err-write_header-2.ensures.cause (λ _. refl)
+    (omega (arith, c.fill.ensures.cause.later, c.write_body.ensures.cause.later))
+    c.in_err-write_body-2.ensures.cause (λ _. refl)
 
 pub returns-clause-cause : goal.returns-clause-cause
 returns-clause-cause g c =
     cause_after _ _ _ _ _
-    (omega (arith, c.fill.ensures.cause.later, c.write_header.ensures.cause.later))
-    c.in_ok-write_header-2.ensures.cause (λ never. never)
+    (omega (arith, c.fill.ensures.cause.later, c.write_body.ensures.cause.later))
+    c.in_ok-write_body-2.ensures.cause (λ never. never)
 
 pub returns-clause-written : goal.returns-clause-written
 returns-clause-written g c =
@@ -25,7 +29,7 @@ returns-clause-written g c =
     let moved : c.fill.new.rng ≡ advanced rng size
     = c.in_ok-fill.ensures.drawn ∙ ap (λ (h : ChaCha). advanced h size) still in
     made c.headers_open_again.ensures c.validity_is_decided.ensures (g.D.Store.image c.args.disk.now) (g.D.Store.image c.fill.new.disk)
-    (g.D.Store.image c.write_header.new.disk) (g.D.Store.image c.write_header-2.new.disk)
+    (g.D.Store.image c.write_body.new.disk) (g.D.Store.image c.write_body-2.new.disk)
     rng c.args.spec.now c.outer_fields-fields.result c.requires.formattable
     c.salt_at-salt.result c.salt_at-backup_salt.result
     (c.salt_at-salt.ensures.salt ∙ ap (λ (at : ℕ). stream_bytes rng at 64) c.slot_at.ensures)
@@ -35,8 +39,8 @@ returns-clause-written g c =
     (fields_are rng c.fill.new.rng c.args.spec.now c.key_material-material.result
     c.outer_fields-fields.result moved
     c.key_material-material.ensures.material c.outer_fields-fields.ensures)
-    c.write_header.ensures.opens_again c.write_header-2.ensures.opens_again
+    c.write_body.ensures.opens_again c.write_body-2.ensures.opens_again
     (filled_from (g.D.Store.image c.args.disk.now)
     (g.D.Store.image c.fill.new.disk) _ rng size still
     c.in_ok-fill.ensures.filled)
-    c.in_ok-write_header.ensures.written c.in_ok-write_header-2.ensures.written
+    c.in_ok-write_body.ensures.written c.in_ok-write_body-2.ensures.written

@@ -1,0 +1,2 @@
+-- the candidates of one slot
+pub mod Slots

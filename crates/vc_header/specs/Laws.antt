@@ -1,0 +1,2 @@
+-- the rules as a test
+pub mod Tests

@@ -1,0 +1,2 @@
+-- sectors are whole data units
+pub mod Sectors
