@@ -1,5 +1,5 @@
 -- The circuit of the S-box: its gates, and that they give the S-box.
-use Rattle.std.proofs.Common.{◌≡◌, ◌<◌, List, [], ◌∷◌, ℕ, true, refl, sym, ◌∙◌, min, max}
+use Rattle.std.proofs.Common.{◌≡◌, List, [], ◌∷◌, ℕ, true, refl, sym, ◌∙◌}
 use Rattle.vc_base.specs.Bits.{of_bits}
 use Rattle.vc_base.proofs.EachNumber.{agree_below, agree_at}
 use Rattle.vc_base.proofs.Products.{horner}
@@ -13,21 +13,21 @@ use Rattle.aes_core.proofs.OnPlanes.{on_planes, plane_inputs, on_byte, circuit_i
 abbrev pub box_gates : List Gate
 box_gates =
     odd 7 5 ∷ odd 5 2 ∷ odd 1 0 ∷ odd 3 0 ∷ odd 10 0 ∷ odd 7 1 ∷ odd 9 0 ∷ odd 12 2 ∷ odd 2 0
-    ∷ odd 16 0 ∷ odd 10 3 ∷ odd 4 1 ∷ odd 16 1 ∷ odd 14 4 ∷ odd 6 1 ∷ odd 2 1 ∷ odd 13 4 ∷ odd 13 7
-    ∷ odd 12 2 ∷ both 7 0 ∷ either 10 14 ∷ either 14 5 ∷ either 19 23 ∷ both 19 14 ∷ both 24 10
-    ∷ both 8 10 ∷ either 8 18 ∷ either 16 14 ∷ odd 6 1 ∷ odd 4 2 ∷ odd 6 25 ∷ odd 0 5 ∷ odd 0 2
-    ∷ odd 10 5 ∷ odd 0 4 ∷ odd 14 9 ∷ odd 0 7 ∷ odd 17 36 ∷ odd 0 10 ∷ odd 0 10 ∷ both 5 0
-    ∷ odd 8 6 ∷ odd 1 5 ∷ both 1 0 ∷ odd 3 0 ∷ both 12 0 ∷ odd 9 6 ∷ odd 14 6 ∷ both 1 0 ∷ odd 0 6
-    ∷ both 13 0 ∷ odd 0 4 ∷ odd 3 15 ∷ odd 7 18 ∷ odd 10 21 ∷ odd 2 3 ∷ odd 1 2 ∷ odd 3 5 ∷ odd 1 2
-    ∷ odd 0 1 ∷ both 3 41 ∷ both 6 55 ∷ both 8 46 ∷ both 7 64 ∷ both 11 55 ∷ both 13 51 ∷ both 7 51
-    ∷ both 7 59 ∷ both 10 55 ∷ both 12 57 ∷ both 15 60 ∷ both 17 64 ∷ both 16 69 ∷ both 20 69
-    ∷ both 22 74 ∷ both 16 58 ∷ both 16 58 ∷ both 19 66 ∷ odd 1 86 ∷ odd 3 0 ∷ odd 8 9 ∷ odd 1 0
-    ∷ odd 13 18 ∷ odd 16 1 ∷ odd 0 1 ∷ odd 20 0 ∷ odd 25 22 ∷ odd 13 6 ∷ odd 0 13 ∷ odd 26 2
-    ∷ odd 20 10 ∷ odd 0 20 ∷ odd 0 6 ∷ odd 15 14 ∷ odd 0 1 ∷ odd 29 5 ∷ odd 23 21 ∷ odd 0 4
-    ∷ odd 36 13 ∷ odd 0 12 ∷ odd 0 11 ∷ odd 33 18 ∷ odd 0 16 ∷ odd 0 13 ∷ odd 0 112 ∷ []
+    ∷ odd 16 0 ∷ odd 10 3 ∷ odd 15 0 ∷ odd 5 2 ∷ odd 5 1 ∷ odd 15 5 ∷ odd 11 5 ∷ odd 4 1 ∷ odd 6 1
+    ∷ odd 19 4 ∷ both 6 0 ∷ either 10 14 ∷ either 14 4 ∷ either 19 23 ∷ both 19 14 ∷ both 24 9
+    ∷ both 7 11 ∷ either 10 18 ∷ either 16 15 ∷ odd 3 1 ∷ odd 2 7 ∷ odd 25 6 ∷ odd 0 5 ∷ odd 3 0
+    ∷ odd 10 5 ∷ odd 0 5 ∷ odd 14 5 ∷ odd 10 0 ∷ odd 36 9 ∷ odd 0 8 ∷ odd 19 0 ∷ both 7 3 ∷ odd 1 0
+    ∷ odd 0 5 ∷ both 8 0 ∷ odd 0 11 ∷ both 3 0 ∷ odd 13 11 ∷ odd 6 3 ∷ both 1 0 ∷ odd 2 7
+    ∷ both 10 0 ∷ odd 4 7 ∷ odd 3 19 ∷ odd 2 7 ∷ odd 3 17 ∷ odd 0 1 ∷ odd 3 4 ∷ odd 0 3 ∷ odd 2 5
+    ∷ odd 4 7 ∷ both 8 41 ∷ both 8 55 ∷ both 5 45 ∷ both 8 64 ∷ both 8 55 ∷ both 11 50 ∷ both 6 52
+    ∷ both 8 59 ∷ both 10 56 ∷ both 17 56 ∷ both 17 60 ∷ both 14 64 ∷ both 17 69 ∷ both 17 69
+    ∷ both 20 74 ∷ both 15 57 ∷ both 17 60 ∷ both 19 66 ∷ odd 2 86 ∷ odd 0 2 ∷ odd 9 8 ∷ odd 0 1
+    ∷ odd 18 13 ∷ odd 16 1 ∷ odd 19 1 ∷ odd 0 1 ∷ odd 11 6 ∷ odd 26 18 ∷ odd 14 1 ∷ odd 7 0
+    ∷ odd 27 2 ∷ odd 21 20 ∷ odd 0 6 ∷ odd 17 15 ∷ odd 0 1 ∷ odd 29 12 ∷ odd 5 0 ∷ odd 24 10
+    ∷ odd 0 5 ∷ odd 37 11 ∷ odd 0 16 ∷ odd 11 0 ∷ odd 34 110 ∷ odd 0 12 ∷ odd 0 18 ∷ []
 
 abbrev pub box_places : List ℕ
-box_places = 10 ∷ 23 ∷ 16 ∷ 9 ∷ 7 ∷ 19 ∷ 4 ∷ 0 ∷ []
+box_places = 10 ∷ 23 ∷ 15 ∷ 8 ∷ 6 ∷ 19 ∷ 3 ∷ 0 ∷ []
 
 computed : agree_below (on_byte box_gates box_places) forth 256 ≡ true
 unfolding agree_below on_byte run forth affine of_bits power_254 from_3 from_12 square horner

@@ -1,5 +1,5 @@
 -- The circuits that multiply each byte by 2 and by 4.
-use Rattle.std.proofs.Common.{◌≡◌, ◌<◌, List, [], ◌∷◌, ℕ, true, refl}
+use Rattle.std.proofs.Common.{◌≡◌, List, [], ◌∷◌, ℕ, true, refl}
 use Rattle.vc_base.specs.Bits.{of_bits}
 use Rattle.vc_base.specs.Polynomial.{product, times, remainder, coefficients}
 use Rattle.vc_base.proofs.EachNumber.{agree_below, agree_at}

@@ -1,5 +1,5 @@
 -- Groups of eight blocks, as bytes and as rows.
-use Rattle.std.proofs.Common.{◌≡◌, ◌<◌, ◌≤◌, ◌+◌, ◌*◌, List, [], ◌∷◌, ◌++◌, ◌/◌, ◌%◌, ℕ, length, take, slice_index_or, refl, sym, ap, ap₂, subst, ◌∙◌, arith, lit<}
+use Rattle.std.proofs.Common.{◌≡◌, ◌<◌, ◌≤◌, ◌*◌, List, [], ◌∷◌, ◌++◌, ◌/◌, ◌%◌, ℕ, length, take, slice_index_or, refl, sym, ap, ap₂, ◌∙◌, arith, lit<}
 use Rattle.std.proofs.lemmas.List.{take_at}
 use Rattle.std.specs.Simd.{first_chunks}
 use Rattle.vc_base.specs.Bytes.{IsBytes, piece, joined, in_pieces}
@@ -7,7 +7,8 @@ use Rattle.vc_base.proofs.Bytes.{IsBytes-piece, length-xor_bytes}
 use Rattle.vc_base.proofs.Chunks.{chunk_is_piece}
 use Rattle.vc_base.proofs.Pieces.{joined_same, in_pieces-joined, in_pieces-append, length-in_pieces_whole, length-piece}
 use Rattle.aes_core.specs.Aes.{cipher, inverse_cipher, add_round_key, shift_rows, inverse_sub_bytes}
-use Rattle.aes_core.specs.Laws.Planes.{plane, block_of, rows, ArePlanes, Transposed}
+use Rattle.aes_core.specs.Laws.Planes.{plane, block_of, rows, ArePlanes, by_rows, Transposed}
+use Rattle.aes_core.proofs.Moves.{turned_twice}
 use Rattle.aes_core.proofs.OnPlanes.{below_eight}
 
 pub rows_of_chunks : (n : ℕ) (g : List ℕ) (cs : List (List ℕ)) → cs ≡ first_chunks 16 n g → 8 ≤ n
@@ -29,18 +30,26 @@ rows_are_planes g bytes =
     }
 
 -- block k of the planes that are made of a group
-pub start_of : (g : List ℕ) (x y : List (List ℕ)) → x ≡ rows g → Transposed x y → (k : ℕ) → k < 8 → block_of y k ≡ piece 16 k g
-start_of g x y is transposed k below =
+pub start_of : (g : List ℕ) (x t y : List (List ℕ)) → length g ≡ 128 → x ≡ rows g
+    → ((k : ℕ) → k < 8 → plane t k ≡ by_rows (plane x k)) → Transposed t y → (k : ℕ) → k < 8 → block_of y k ≡ piece 16 k g
+start_of g x t y long is turns transposed k below =
     transposed.blocks k below
-    ∙ ap (λ (p : List (List ℕ)). plane p k) is
-    ∙ below_eight (λ k. plane (rows g) k ≡ piece 16 k g) refl refl refl refl refl refl refl refl k below
+    ∙ ap by_rows (turns k below ∙ ap (λ (p : List (List ℕ)). by_rows (plane p k)) is
+    ∙ ap by_rows (below_eight (λ k. plane (rows g) k ≡ piece 16 k g) refl refl refl refl refl refl refl refl k below))
+    ∙ turned_twice (piece 16 k g) (length-piece 16 k g (omega arith))
+
+block_turned : (x : List (List ℕ)) (k : ℕ) → by_rows (by_rows (block_of x k)) ≡ block_of x k
+unfolding by_rows
+block_turned x k = refl
 
 -- and the group that is made of planes, each block of which is what f makes
-pub eight_written : (f : List ℕ → List ℕ) (x y : List (List ℕ)) (old now : List ℕ) → length old ≡ 128 → Transposed x y
-    → now ≡ joined (plane y) 8 → ((k : ℕ) → k < 8 → block_of x k ≡ f (piece 16 k old)) → now ≡ in_pieces 16 (λ _ b. f b) old
-eight_written f x y old now long transposed written each =
+pub eight_written : (f : List ℕ → List ℕ) (x y t : List (List ℕ)) (old now : List ℕ) → length old ≡ 128 → Transposed x y
+    → ((k : ℕ) → k < 8 → plane t k ≡ by_rows (plane y k)) → now ≡ joined (plane t) 8
+    → ((k : ℕ) → k < 8 → block_of x k ≡ f (piece 16 k old)) → now ≡ in_pieces 16 (λ _ b. f b) old
+eight_written f x y t old now long transposed turns written each =
     written
-    ∙ joined_same (plane y) (λ k. f (piece 16 k old)) 8 (λ k below. transposed.rows k below ∙ each k below)
+    ∙ joined_same (plane t) (λ k. f (piece 16 k old)) 8
+    (λ k below. turns k below ∙ ap by_rows (transposed.rows k below) ∙ block_turned x k ∙ each k below)
     ∙ sym (in_pieces-joined 16 8 (λ _ b. f b) old (omega arith) long)
 
 -- the first blocks of a group that is filled up with others

@@ -3,12 +3,12 @@
 -- At a level s, one of 1, 2 and 4, rows i and i + s exchange bits: where the place k has the part s, the lower row
 -- gets bit k - s of the upper one, and where it has not, the upper row gets bit k + s of the lower one. So i and k
 -- exchange their parts s, and after the three levels they have changed places.
-use Rattle.std.proofs.Common.{◌≡◌, ◌<◌, ◌≤◌, ◌+◌, ◌-◌, ◌*◌, ◌/◌, ◌%◌, ◌^◌, min, cond, eqb, Bool, true, false, List, [], ◌∷◌, ℕ, zero, suc, length, get_or, slice_index, replicate, refl, sym, ap, ap₂, ◌∙◌, subst, arith, bit_xor, bit_and, inl, inr, lit<, pow-suc}
+use Rattle.std.proofs.Common.{◌≡◌, ◌<◌, ◌≤◌, ◌+◌, ◌-◌, ◌*◌, ◌/◌, ◌%◌, ◌^◌, min, cond, eqb, Bool, true, false, List, ℕ, zero, suc, get_or, slice_index, replicate, refl, sym, ap, ap₂, ◌∙◌, subst, arith, bit_xor, bit_and, inl, inr}
 use Rattle.std.specs.Int.{bit_at}
 use Rattle.std.specs.Int.Bits.{and_lt}
 use Rattle.std.specs.Simd.Lanes.{zip2}
 use Rattle.std.proofs.Math.Nat.{div-div-eq-div-mul, add-mul-div_left, div-le_self, div-eq_of_lt}
-use Rattle.std.proofs.lemmas.Bool.{cases_lt, cases_eq}
+use Rattle.std.proofs.lemmas.Bool.{cases_lt}
 use Rattle.std.proofs.lemmas.Nat.{xor_lt, pow-add, pow_pos, div-add-mod'}
 use Rattle.std.proofs.lemmas.Nat.Bits.{bit_at-lt, bit_at-zero, bit_at_and, bit_at_xor, bit_at_cat_low, bit_at_cat_high}
 use Rattle.std.proofs.lemmas.Simd.{get_or-replicate}
@@ -16,8 +16,8 @@ use Rattle.vc_base.specs.Bits.{of_bits}
 use Rattle.vc_base.specs.Bytes.{IsBytes}
 use Rattle.vc_base.proofs.Bits.{of_bits-ext, own_bits}
 use Rattle.vc_base.proofs.EachNumber.{agree_below, agree_at}
-use Rattle.aes_core.specs.Laws.Planes.{plane, bit_of, byte_of, block_of, ArePlanes, IsExchange, chosen, Exchanged, Transposed}
-use Rattle.aes_core.specs.Laws.States.{state_by_lane, of_state}
+use Rattle.aes_core.specs.Laws.Planes.{plane, bit_of, byte_of, block_of, ArePlanes, IsExchange, chosen, Exchanged, by_rows, Transposed}
+use Rattle.aes_core.specs.Laws.States.{state_by_lane, state_by_place, of_state}
 use Rattle.aes_core.proofs.OnPlanes.{lane-zip2, zipped_bytes, splat_bytes, below_eight}
 
 -- ---- shifts, bit by bit
@@ -345,17 +345,18 @@ own_byte b small = sym (own_bits b 8 small)
 abbrev Changed : List (List ℕ) → List (List ℕ) → Type 0
 Changed x y = (l k i : ℕ) → l < 16 → k < 8 → i < 8 → bit_of y l k i ≡ bit_of x l i k
 
-blocks_are_rows : (x y : List (List ℕ)) → ArePlanes x → Changed x y → (k : ℕ) → k < 8 → block_of y k ≡ plane x k
+blocks_are_rows : (x y : List (List ℕ)) → ArePlanes x → Changed x y → (k : ℕ) → k < 8 → block_of y k ≡ by_rows (plane x k)
+unfolding by_rows
 blocks_are_rows x y planes bits k below =
     state_by_lane (λ l. byte_of y l k) (λ l. slice_index (plane x k) l)
     (λ l lane. of_bits-ext (bit_of y l k) (bit_at (slice_index (plane x k) l)) 8 (λ i inside. bits l k i lane below inside)
     ∙ own_byte (slice_index (plane x k) l) ((planes.each k below).each l))
-    ∙ sym (of_state (plane x k) (planes.each k below).count)
 
-rows_are_blocks : (x y : List (List ℕ)) → ArePlanes y → Changed x y → (k : ℕ) → k < 8 → plane y k ≡ block_of x k
+rows_are_blocks : (x y : List (List ℕ)) → ArePlanes y → Changed x y → (k : ℕ) → k < 8 → plane y k ≡ by_rows (block_of x k)
+unfolding by_rows
 rows_are_blocks x y planes bits k below =
     of_state (plane y k) (planes.each k below).count
-    ∙ state_by_lane (λ l. slice_index (plane y k) l) (λ l. byte_of x l k)
+    ∙ state_by_place (λ l. slice_index (plane y k) l) (λ l. byte_of x l k)
     (λ l lane. sym (own_byte (slice_index (plane y k) l) ((planes.each k below).each l))
     ∙ of_bits-ext (bit_at (slice_index (plane y k) l)) (bit_of x l k) 8 (λ i inside. bits l i k lane inside below))
 

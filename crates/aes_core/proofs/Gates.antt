@@ -3,7 +3,7 @@
 -- A circuit is a list of gates, each of which puts its value in front of the values so far and names its two
 -- inputs by their places there. A map that respects the three operations respects the circuit: so a circuit
 -- on planes does in each bit of each lane what it does on bits, and on the bits of a byte it is computed.
-use Rattle.std.proofs.Common.{◌≡◌, ◌<◌, ◌≤◌, List, [], ◌∷◌, ℕ, zero, suc, map, length, get_or, refl, sym, ap, ap₂, subst, ◌∙◌, arith}
+use Rattle.std.proofs.Common.{◌≡◌, ◌<◌, List, [], ◌∷◌, ℕ, zero, suc, map, length, get_or, refl, sym, ap, ap₂, subst, ◌∙◌, arith}
 
 pub data Gate : Type 0 where
   odd : ℕ → ℕ → Gate

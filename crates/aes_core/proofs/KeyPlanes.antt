@@ -13,8 +13,8 @@ use Rattle.std.specs.Simd.{first_chunks}
 use Rattle.vc_base.proofs.Bytes.{IsBytes-piece}
 use Rattle.vc_base.proofs.Chunks.{piece-take, chunk_is_piece}
 use Rattle.vc_base.proofs.Pieces.{piece-joined}
-use Rattle.aes_core.specs.Aes.{state}
-use Rattle.aes_core.specs.Laws.Planes.{plane, byte_of, block_of, rows, ArePlanes, Transposed, AreKeyPlanes}
+use Rattle.aes_core.specs.Laws.Planes.{plane, block_of, rows, ArePlanes, by_rows, Transposed, AreKeyPlanes}
+use Rattle.aes_core.proofs.Moves.{turned_twice}
 use Rattle.aes_core.proofs.OnPlanes.{below_eight}
 
 -- ---- one group
@@ -46,14 +46,15 @@ pub record AreCopies (key g : List ℕ) : Type 0 where
   pub planes : ArePlanes (rows g)
   pub each : (k : ℕ) → k < 8 → block_of (rows g) k ≡ key
 
-pub copies_written : (key : List ℕ) (y : List (List ℕ)) (g : List ℕ) → Transposed (replicate 8 key) y → g ≡ joined (plane y) 8 → AreCopies key g
-copies_written key y g transposed written =
+pub copies_written : (key row : List ℕ) (y : List (List ℕ)) (g : List ℕ) → length key ≡ 16 → row ≡ by_rows key → Transposed (replicate 8 row) y
+    → g ≡ joined (plane y) 8 → AreCopies key g
+copies_written key row y g long is transposed written =
     let as_rows : rows g ≡ listed y = ap rows written ∙ rows-joined y transposed.planes in
     record {
       planes = subst ArePlanes (sym as_rows) (listed_planes y transposed.planes);
       each = λ k below.
           ap (λ (p : List (List ℕ)). block_of p k) as_rows ∙ block_of-listed y k ∙ transposed.blocks k below
-          ∙ get_or-replicate 8 k key [] below;
+          ∙ ap by_rows (get_or-replicate 8 k row [] below ∙ is) ∙ turned_twice key long;
     }
 
 pub copies_planes : (key : List ℕ) → IsBytes 16 key → ArePlanes (replicate 8 key)

@@ -3,14 +3,14 @@
 -- On a column a, b, c, d row 0 is 2(a + b) + b + c + d. The inverse mixes the column that has a + 4(a + c) in
 -- row 0, and so on; by linearity that is 14, 11, 13 and 9 times its bytes, which is computed at each byte. The
 -- other rows are the same with the column turned.
-use Rattle.std.proofs.Common.{◌≡◌, ◌<◌, ◌+◌, ◌*◌, List, [], ◌∷◌, ◌++◌, ℕ, true, refl, sym, ap, ap₂, ◌∙◌, bit_xor, lit<}
+use Rattle.std.proofs.Common.{◌≡◌, ◌<◌, ◌+◌, ◌/◌, ◌%◌, ◌*◌, List, [], ◌∷◌, ◌++◌, ℕ, true, refl, sym, ap, ap₂, ◌∙◌, bit_xor, lit<}
 use Rattle.std.specs.Int.Bits.{xor_assoc, xor_zero_r}
-use Rattle.std.proofs.lemmas.Nat.{xor_comm, xor_of_8}
+use Rattle.std.proofs.lemmas.Nat.{xor_comm}
 use Rattle.vc_base.specs.Bytes.{xor_bytes}
 use Rattle.vc_base.specs.Polynomial.{product, times, remainder, coefficients}
 use Rattle.vc_base.proofs.EachNumber.{agree_below, agree_at}
-use Rattle.aes_core.specs.Aes.{mul, state, column_times, row_times, mix_row, inverse_mix_row, mix_columns, inverse_mix_columns}
-use Rattle.aes_core.specs.Laws.Field.{mul_below, mul_xor}
+use Rattle.aes_core.specs.Aes.{mul, state, column_times, mix_row, inverse_mix_row, mix_columns, inverse_mix_columns}
+use Rattle.aes_core.specs.Laws.Field.{mul_xor}
 use Rattle.aes_core.specs.Laws.MixColumns.{quad, quad-ext, quad_turn, quad_quad}
 use Rattle.aes_core.specs.Laws.Planes.{block_of, byte_of, InEachBlock, Added, row_below, two_rows_below, multiplied}
 use Rattle.aes_core.proofs.OnPlanes.{byte_of-below}
@@ -197,7 +197,7 @@ mixed_is x below sums doubled folded two y a b c d e f = record {
   each = λ k small.
       mixed_block (block_of x k) (block_of below k) (block_of sums k) (block_of doubled k) (block_of folded k) (block_of two k) (block_of y k)
       (a.each k small) (b.each k small) (c.each k small) (d.each k small) (e.each k small) (f.each k small)
-      ∙ mixed_state (λ (l : ℕ). byte_of x l k) (λ l. byte_of-below x l k);
+      ∙ mixed_state (λ (l : ℕ). byte_of x (4 * (l % 4) + l / 4) k) (λ l. byte_of-below x (4 * (l % 4) + l / 4) k);
 }
 
 unmixed_block : (s two sums quadrupled before y : List ℕ) → two ≡ two_rows_below s → sums ≡ xor_bytes s two → quadrupled ≡ multiplied 4 sums
@@ -213,5 +213,5 @@ unmixed_is x two sums quadrupled before y a b c d e = record {
   each = λ k small.
       unmixed_block (block_of x k) (block_of two k) (block_of sums k) (block_of quadrupled k) (block_of before k) (block_of y k)
       (a.each k small) (b.each k small) (c.each k small) (d.each k small) (e.each k small)
-      ∙ unmixed_state (λ (l : ℕ). byte_of x l k) (λ l. byte_of-below x l k);
+      ∙ unmixed_state (λ (l : ℕ). byte_of x (4 * (l % 4) + l / 4) k) (λ l. byte_of-below x (4 * (l % 4) + l / 4) k);
 }

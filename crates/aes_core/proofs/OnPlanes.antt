@@ -3,7 +3,7 @@
 -- Bit k of lane l of the planes that a circuit gives is what the circuit gives on those bits of its planes,
 -- and these are the bits of a byte. So a circuit that makes f b of the bits of each byte b makes f of each
 -- byte of the eight blocks.
-use Rattle.std.proofs.Common.{◌≡◌, ◌<◌, ◌≤◌, ◌+◌, ◌-◌, ◌/◌, ◌*◌, ◌%◌, ◌^◌, min, max, List, [], ◌∷◌, ℕ, zero, suc, map, length, get_or, slice_index, slice_index_or, replicate, refl, sym, ap, ap₂, ◌∙◌, subst, arith, bit_xor, bit_and, bit_or, inl, inr, lit<}
+use Rattle.std.proofs.Common.{◌≡◌, ◌<◌, ◌+◌, ◌%◌, min, max, List, [], ◌∷◌, ℕ, zero, suc, length, get_or, slice_index, replicate, refl, sym, ap, ap₂, ◌∙◌, subst, arith, bit_xor, bit_and, bit_or, inl, inr, lit<}
 use Rattle.std.specs.Int.{bit_at}
 use Rattle.std.specs.Int.Bits.{and_lt}
 use Rattle.std.specs.Simd.Lanes.{zip2}
@@ -14,9 +14,9 @@ use Rattle.std.proofs.lemmas.Nat.Bits.{bit_at-lt, bit_at-zero, bit_at_and, bit_a
 use Rattle.std.proofs.lemmas.Simd.{length-zip2, get_or-zip2, length-replicate, get_or-replicate}
 use Rattle.vc_base.specs.Bits.{of_bits}
 use Rattle.vc_base.specs.Bytes.{IsBytes, xor_bytes}
-use Rattle.vc_base.proofs.Bits.{AreBits, bit_at-of_bits, of_bits-below, of_bits-ext}
+use Rattle.vc_base.proofs.Bits.{bit_at-of_bits, of_bits-below, of_bits-ext}
 use Rattle.aes_core.specs.Aes.{at, state}
-use Rattle.aes_core.specs.Laws.Planes.{plane, bit_of, byte_of, block_of, ArePlanes, InEachBlock, Added}
+use Rattle.aes_core.specs.Laws.Planes.{plane, bit_of, byte_of, ArePlanes, InEachBlock, Added}
 use Rattle.aes_core.specs.Laws.States.{state_by_lane}
 use Rattle.aes_core.proofs.Gates.{Gate, Operations, given, Each, Keeps, Respects, no_values, more_values, given_keeps, given_respects}
 

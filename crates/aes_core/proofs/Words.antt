@@ -10,7 +10,7 @@ use Rattle.vc_base.specs.Bytes.{IsBytes, xor_bytes}
 use Rattle.vc_base.specs.Polynomial.{product, times, remainder, coefficients}
 use Rattle.aes_core.specs.Aes.{sub_byte, sub_word, sub_bytes, power, turned, next_word, schedule}
 use Rattle.vc_base.proofs.EachNumber.{agree_below, agree_at}
-use Rattle.aes_core.specs.Laws.Planes.{plane, InEachBlock, Transposed}
+use Rattle.aes_core.specs.Laws.Planes.{plane, InEachBlock, by_rows, Transposed}
 use Rattle.aes_core.specs.Laws.States.{four}
 use Rattle.vc_base.proofs.Bytes.{AreBytes, is_bytes, AreBytes-cons, AreBytes-nil}
 use Rattle.vc_base.proofs.Chunks.{piece-take}
@@ -26,7 +26,7 @@ xor_four s t long_s long_t = sym (ap₂ xor_bytes (four s long_s) (four t long_t
 
 -- ---- SubWord, through eight blocks
 
--- a word as the first column of a block
+-- a word in the first lanes of a row
 abbrev pub word_block : ℕ → ℕ → ℕ → ℕ → List ℕ
 word_block a b c d = a ∷ b ∷ c ∷ d ∷ 0 ∷ 0 ∷ 0 ∷ 0 ∷ 0 ∷ 0 ∷ 0 ∷ 0 ∷ 0 ∷ 0 ∷ 0 ∷ 0 ∷ []
 
@@ -41,10 +41,10 @@ pub word_substituted : (a b c d : ℕ) (y z v : List (List ℕ)) → Transposed 
     → InEachBlock sub_bytes y z → Transposed z v
     → get_or (plane v 0) 0 0 ∷ get_or (plane v 0) 1 0 ∷ get_or (plane v 0) 2 0 ∷ get_or (plane v 0) 3 0 ∷ []
     ≡ sub_word (a ∷ b ∷ c ∷ d ∷ [])
-unfolding sub_bytes
+unfolding sub_bytes by_rows
 word_substituted a b c d y z v first box second =
-    let block : plane v 0 ≡ sub_bytes (word_block a b c d)
-    = second.rows 0 (lit< tt) ∙ box.each 0 (lit< tt) ∙ ap sub_bytes (first.blocks 0 (lit< tt)) in
+    let block : plane v 0 ≡ by_rows (sub_bytes (by_rows (word_block a b c d)))
+    = second.rows 0 (lit< tt) ∙ ap by_rows (box.each 0 (lit< tt) ∙ ap sub_bytes (first.blocks 0 (lit< tt))) in
     ap (λ (s : List ℕ). get_or s 0 0 ∷ get_or s 1 0 ∷ get_or s 2 0 ∷ get_or s 3 0 ∷ []) block
 
 -- ---- what a word adds to the next

@@ -4,7 +4,7 @@ ghost use Rattle.vc_base.specs.Bytes.{IsBytes, piece};
 ghost use Rattle.aes_core.specs.Aes.{schedule, add_round_key};
 ghost use Rattle.aes_core.specs.Laws.Planes.{ArePlanes, InEachBlock, AreKeyPlanes};
 
-use crate::planes::{added, gather, scatter, transposed};
+use crate::planes::{added, gather, scatter, transposed, turn};
 use crate::schedule::expand;
 use std::simd::u8x16;
 
@@ -37,7 +37,7 @@ fn spread(schedule: &[u8; 240]) -> [u8; 1920]
     let (keys, _) = schedule.as_chunks::<16>();
     let mut planes = [0; 1920];
     for r in 0..15 {
-        let key = u8x16::from_array(keys[r]);
+        let key = turn(u8x16::from_array(keys[r]));
         scatter(transposed([key; 8]), &mut planes[128 * r..128 * r + 128]);
     }
     planes

@@ -1,15 +1,16 @@
-//! Eight blocks as bit planes, and back.
+//! Eight blocks as bit planes, and back. A row here is 16 bytes of a group of 128, before they are planes.
 //!
 //! ```text
 //!           lane 0             lane 15
 //! plane i:  [7 6 5 4 3 2 1 0]  ..  [7 6 5 4 3 2 1 0]     eight bits a lane, of blocks 7 to 0
 //! ```
 //!
-//! Bit k of lane l of plane i is bit i of byte l of block k. So an operation on whole planes does the
-//! same to each byte of the eight blocks.
-ghost use Rattle.std.specs.Prelude.{◌≡◌, ◌<◌, length, slice_index_or, []};
+//! Lane 4r + c belongs to row r and column c of the eight states, and bit k of it to block k: in plane i
+//! it is bit i of that byte. So an operation on whole planes does the same to each byte of the eight
+//! blocks. A block has its bytes column by column, so it is turned before its bits become planes.
+ghost use Rattle.std.specs.Prelude.{◌≡◌, ◌<◌, ℕ, length, slice_index_or, []};
 ghost use Rattle.vc_base.specs.Bytes.{IsBytes, joined};
-ghost use Rattle.aes_core.specs.Laws.Planes.{ArePlanes, Added, rows, Transposed, IsExchange, Exchanged};
+ghost use Rattle.aes_core.specs.Laws.Planes.{ArePlanes, Added, rows, by_rows, Transposed, IsExchange, Exchanged};
 
 use std::simd::u8x16;
 
@@ -45,7 +46,36 @@ pub fn scatter(x: [u8x16; 8], group: &mut [u8])
     }
 }
 
-/// The planes of eight blocks, which come as rows. It is its own inverse: of planes it makes blocks.
+/// Each row turned: its byte r + 4c goes to place 4r + c. It is its own inverse.
+#[inline(always)]
+pub fn rows_turned(x: [u8x16; 8]) -> [u8x16; 8]
+    requires { ArePlanes x }
+    ensures planes { ArePlanes result }
+    ensures each { (k : ℕ) → k < 8 → slice_index_or result k [] ≡ by_rows (slice_index_or x k []) }
+{
+    let [a, b, c, d, e, f, g, h] = x;
+    [
+        turn(a),
+        turn(b),
+        turn(c),
+        turn(d),
+        turn(e),
+        turn(f),
+        turn(g),
+        turn(h),
+    ]
+}
+
+/// A row, turned.
+#[inline(always)]
+pub fn turn(row: u8x16) -> u8x16
+    ensures { result ≡ by_rows row }
+{
+    row.swizzle([0, 4, 8, 12, 1, 5, 9, 13, 2, 6, 10, 14, 3, 7, 11, 15])
+}
+
+/// The planes of eight blocks, which come as turned rows. It is its own inverse: it makes turned rows of
+/// planes.
 #[inline(always)]
 pub fn transposed(x: [u8x16; 8]) -> [u8x16; 8]
     requires { ArePlanes x }

@@ -6,7 +6,7 @@ ghost use Rattle.aes_core.specs.Aes.{cipher, inverse_cipher};
 use crate::columns::{mixed, unmixed};
 use crate::inverse_sbox::unsubstituted;
 use crate::keys::{RoundKeys, with_round_key};
-use crate::planes::{gather, scatter, transposed};
+use crate::planes::{gather, rows_turned, scatter, transposed};
 use crate::rows::{shifted, unshifted};
 use crate::sbox::substituted;
 
@@ -54,12 +54,12 @@ fn encipher_eight(keys: &RoundKeys, group: &mut [u8])
     requires { length group.old ≡ 128 }
     ensures { group.new ≡ in_pieces 16 (λ _ b. cipher keys.now.schedule b) group.old }
 {
-    let mut x = with_round_key(keys, 0, transposed(gather(group)));
+    let mut x = with_round_key(keys, 0, transposed(rows_turned(gather(group))));
     for round in 1..14 {
         x = with_round_key(keys, round, mixed(shifted(substituted(x))));
     }
     let last = with_round_key(keys, 14, shifted(substituted(x)));
-    scatter(transposed(last), group);
+    scatter(rows_turned(transposed(last)), group);
 }
 
 // Deciphers fewer than eight blocks in place: the rest of their group is zeros.
@@ -82,10 +82,10 @@ fn decipher_eight(keys: &RoundKeys, group: &mut [u8])
     requires { length group.old ≡ 128 }
     ensures { group.new ≡ in_pieces 16 (λ _ b. inverse_cipher keys.now.schedule b) group.old }
 {
-    let mut x = with_round_key(keys, 14, transposed(gather(group)));
+    let mut x = with_round_key(keys, 14, transposed(rows_turned(gather(group))));
     for round in (1..14).rev() {
         x = unmixed(with_round_key(keys, round, unsubstituted(unshifted(x))));
     }
     let last = with_round_key(keys, 0, unsubstituted(unshifted(x)));
-    scatter(transposed(last), group);
+    scatter(rows_turned(transposed(last)), group);
 }

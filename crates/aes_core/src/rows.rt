@@ -1,8 +1,9 @@
-//! ShiftRows (FIPS 197, 5.1.2), its inverse (5.3.1), and the columns turned: moves of lanes that are the
-//! same in each plane.
+//! ShiftRows (FIPS 197, 5.1.2), its inverse (5.3.1), and the rows moved up: moves of lanes that are the same
+//! in each plane. A row is four lanes side by side, so rows move as words.
 ghost use Rattle.std.specs.Prelude.{◌≡◌};
 ghost use Rattle.aes_core.specs.Aes.{shift_rows, inverse_shift_rows};
 ghost use Rattle.aes_core.specs.Laws.Planes.{ArePlanes, InEachBlock, row_below, two_rows_below};
+ghost use Rattle.aes_core.specs.Laws.Planes.{lanes_left, lanes_right, lanes_up, lanes_up_two};
 
 use std::simd::u8x16;
 
@@ -27,9 +28,9 @@ pub fn shifted(x: [u8x16; 8]) -> [u8x16; 8]
 
 #[inline(always)]
 fn left(plane: u8x16) -> u8x16
-    ensures { result ≡ shift_rows plane }
+    ensures { result ≡ lanes_left plane }
 {
-    plane.swizzle([0, 5, 10, 15, 4, 9, 14, 3, 8, 13, 2, 7, 12, 1, 6, 11])
+    plane.swizzle([0, 1, 2, 3, 5, 6, 7, 4, 10, 11, 8, 9, 15, 12, 13, 14])
 }
 
 /// The inverse of ShiftRows on eight blocks.
@@ -53,12 +54,12 @@ pub fn unshifted(x: [u8x16; 8]) -> [u8x16; 8]
 
 #[inline(always)]
 fn right(plane: u8x16) -> u8x16
-    ensures { result ≡ inverse_shift_rows plane }
+    ensures { result ≡ lanes_right plane }
 {
-    plane.swizzle([0, 13, 10, 7, 4, 1, 14, 11, 8, 5, 2, 15, 12, 9, 6, 3])
+    plane.swizzle([0, 1, 2, 3, 7, 4, 5, 6, 10, 11, 8, 9, 13, 14, 15, 12])
 }
 
-/// The byte below each byte in its column, above the first one's the first.
+/// The byte below each byte in its column. Below the last row is the first.
 #[inline(always)]
 pub fn one_below(x: [u8x16; 8]) -> [u8x16; 8]
     requires { ArePlanes x }
@@ -70,9 +71,9 @@ pub fn one_below(x: [u8x16; 8]) -> [u8x16; 8]
 
 #[inline(always)]
 fn up(plane: u8x16) -> u8x16
-    ensures { result ≡ row_below plane }
+    ensures { result ≡ lanes_up plane }
 {
-    plane.swizzle([1, 2, 3, 0, 5, 6, 7, 4, 9, 10, 11, 8, 13, 14, 15, 12])
+    plane.swizzle([4, 5, 6, 7, 8, 9, 10, 11, 12, 13, 14, 15, 0, 1, 2, 3])
 }
 
 /// The byte two below each byte in its column.
@@ -96,7 +97,7 @@ pub fn two_below(x: [u8x16; 8]) -> [u8x16; 8]
 
 #[inline(always)]
 fn up_two(plane: u8x16) -> u8x16
-    ensures { result ≡ two_rows_below plane }
+    ensures { result ≡ lanes_up_two plane }
 {
-    plane.swizzle([2, 3, 0, 1, 6, 7, 4, 5, 10, 11, 8, 9, 14, 15, 12, 13])
+    plane.swizzle([8, 9, 10, 11, 12, 13, 14, 15, 0, 1, 2, 3, 4, 5, 6, 7])
 }

@@ -63,7 +63,7 @@ fn turn(i: usize, last: [u8; 4]) -> [u8; 4]
     }
 }
 
-// SubWord: the word is the first column of eight blocks, which go through the circuit of the S-box.
+// SubWord: the word is in the first lanes of eight equal rows, which go through the circuit of the S-box.
 fn substituted_word(a: u8, b: u8, c: u8, d: u8) -> [u8; 4]
     ensures { result ≡ sub_word (a ∷ b ∷ c ∷ d ∷ []) }
 {

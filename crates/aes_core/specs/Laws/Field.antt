@@ -2,8 +2,8 @@
 --
 -- A product is a byte, and linear in its second factor. The inverse of a byte b is b^254, since their
 -- product is 1 at each byte but 0, by computing, and in a ring no second byte can have that product.
-use Rattle.std.proofs.Common.{◌≡◌, ◌<◌, ◌%◌, ℕ, zero, suc, Bool, true, false, cond, eqb, bit_xor, refl, sym, ap, ◌∙◌, arith, lit<, lit≤, inl, inr}
-use Rattle.std.proofs.lemmas.Bool.{cases_eq, eqb-true, eq-eqb, ne_eqb}
+use Rattle.std.proofs.Common.{◌≡◌, ◌<◌, ◌%◌, ℕ, zero, suc, true, eqb, bit_xor, refl, sym, ap, ◌∙◌, arith, lit<, lit≤}
+use Rattle.std.proofs.lemmas.Bool.{eqb-true, eq-eqb, ne_eqb}
 use Rattle.vc_base.specs.Polynomial.{IsOfDegree}
 use Rattle.vc_base.proofs.Bits.{number_below-only, number_below-none}
 use Rattle.vc_base.proofs.EachNumber.{agree_below, agree_at}

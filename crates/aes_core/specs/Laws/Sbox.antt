@@ -5,7 +5,7 @@
 -- other: then each byte has one place in the S-box.
 use Rattle.std.proofs.Common.{◌≡◌, ◌<◌, ◌+◌, ◌%◌, ℕ, true, eqb, refl, sym, ap, ◌∙◌, subst, arith}
 use Rattle.std.proofs.lemmas.Bool.{eqb-true, eq-eqb}
-use Rattle.vc_base.specs.Bits.{of_bits, number_below}
+use Rattle.vc_base.specs.Bits.{of_bits}
 use Rattle.vc_base.proofs.Bits.{number_below-only}
 use Rattle.vc_base.proofs.EachNumber.{agree_below, agree_at}
 use Rattle.vc_base.proofs.Products.{horner}

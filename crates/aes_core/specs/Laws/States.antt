@@ -34,13 +34,22 @@ state-ext f g same =
     (more 0 3 _ _ (more 1 3 _ _ (more 2 3 _ _ (more 3 3 _ _ refl)))))))))))))))
 
 -- by the place of each element
-pub state_by_lane : (f g : ℕ → ℕ) → ((l : ℕ) → l < 16 → f l ≡ g l) → state (λ r c. f (r + 4 * c)) ≡ state (λ r c. g (r + 4 * c))
-state_by_lane f g same =
+pub state_by_place : (f g : ℕ → ℕ) → ((l : ℕ) → l < 16 → f l ≡ g l) → state (λ r c. f (r + 4 * c)) ≡ state (λ r c. g (r + 4 * c))
+state_by_place f g same =
     let more : (l : ℕ) → l < 16 → (xs ys : List ℕ) → xs ≡ ys → f l ∷ xs ≡ g l ∷ ys = λ l below xs ys rest. ap₂ ◌∷◌ (same l below) rest in
     more 0 (lit< tt) _ _ (more 1 (lit< tt) _ _ (more 2 (lit< tt) _ _ (more 3 (lit< tt) _ _
     (more 4 (lit< tt) _ _ (more 5 (lit< tt) _ _ (more 6 (lit< tt) _ _ (more 7 (lit< tt) _ _
     (more 8 (lit< tt) _ _ (more 9 (lit< tt) _ _ (more 10 (lit< tt) _ _ (more 11 (lit< tt) _ _
     (more 12 (lit< tt) _ _ (more 13 (lit< tt) _ _ (more 14 (lit< tt) _ _ (more 15 (lit< tt) _ _ refl)))))))))))))))
+
+-- and by the lane that a plane has for it
+pub state_by_lane : (f g : ℕ → ℕ) → ((l : ℕ) → l < 16 → f l ≡ g l) → state (λ r c. f (4 * r + c)) ≡ state (λ r c. g (4 * r + c))
+state_by_lane f g same =
+    let more : (l : ℕ) → l < 16 → (xs ys : List ℕ) → xs ≡ ys → f l ∷ xs ≡ g l ∷ ys = λ l below xs ys rest. ap₂ ◌∷◌ (same l below) rest in
+    more 0 (lit< tt) _ _ (more 4 (lit< tt) _ _ (more 8 (lit< tt) _ _ (more 12 (lit< tt) _ _
+    (more 1 (lit< tt) _ _ (more 5 (lit< tt) _ _ (more 9 (lit< tt) _ _ (more 13 (lit< tt) _ _
+    (more 2 (lit< tt) _ _ (more 6 (lit< tt) _ _ (more 10 (lit< tt) _ _ (more 14 (lit< tt) _ _
+    (more 3 (lit< tt) _ _ (more 7 (lit< tt) _ _ (more 11 (lit< tt) _ _ (more 15 (lit< tt) _ _ refl)))))))))))))))
 
 -- each element is a byte
 record EachByte (xs : List ℕ) : Type 0 where

@@ -1,4 +1,4 @@
-use Rattle.std.proofs.Common.{◌≡◌, ◌/◌, List, ℕ, [], length, get_or, ap, ◌∙◌, arith}
+use Rattle.std.proofs.Common.{◌/◌, List, ℕ, [], length, get_or, ap, ◌∙◌, arith}
 use Rattle.vc_base.specs.Bytes.{xor_bytes}
 use Rattle.aes_core.specs.Aes.{add_round_key}
 use Rattle.aes_core.specs.Laws.Planes.{block_of, rows}

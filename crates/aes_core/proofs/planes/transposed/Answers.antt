@@ -1,5 +1,5 @@
 use Rattle.std.proofs.Common.{List, ℕ, [], ◌∷◌}
-use Rattle.aes_core.proofs.Exchanges.{Exchanges, mask_1, mask_2, mask_4, transposed_is}
+use Rattle.aes_core.proofs.Exchanges.{mask_1, mask_2, mask_4, transposed_is}
 use Rattle.aes_core.proofs.planes.transposed.Goals as goal
 
 pub exchanged-requires-clause-mask : goal.exchanged-requires-clause-mask

@@ -1,4 +1,4 @@
-use Rattle.std.proofs.Common.{◌+◌, ◌-◌, ◌*◌, ◌/◌, length, refl, arith}
+use Rattle.std.proofs.Common.{◌+◌, ◌-◌, ◌*◌, refl, arith}
 use Rattle.cipher_base.proofs.ByGroups.{regrouped, group_more, rest_done}
 use Rattle.cipher_base.proofs.Loops.{starts}
 use Rattle.aes_core.specs.Aes.{cipher}

@@ -1,4 +1,4 @@
-use Rattle.std.proofs.Common.{◌≡◌, ◌<◌, ◌+◌, ◌-◌, ◌*◌, ℕ, ap, ◌∙◌, arith}
+use Rattle.std.proofs.Common.{ap, ◌∙◌, arith}
 use Rattle.vc_base.specs.Bytes.{piece}
 use Rattle.aes_core.specs.Aes.{add_round_key, cipher}
 use Rattle.aes_core.proofs.EightBlocks.{start_of, eight_written}
@@ -12,7 +12,7 @@ loop-round-init c =
       planes = c.with_round_key-x.ensures.planes;
       done = λ k below.
           c.with_round_key-x.ensures.each k below
-          ∙ ap (add_round_key w 0) (start_of c.args.group.now c.gather.result c.transposed.result c.gather.ensures.rows c.transposed.ensures k below)
+          ∙ ap (add_round_key w 0) (start_of c.args.group.now c.gather.result c.rows_turned.result c.transposed.result c.requires c.gather.ensures.rows c.rows_turned.ensures.each c.transposed.ensures k below)
           ∙ rounds_none w (piece 16 k c.args.group.now);
     }
 
@@ -29,8 +29,8 @@ loop-round-preserved c =
 pub returns : goal.returns
 returns c =
     let w = c.args.keys.now.schedule in
-    eight_written (cipher w) c.with_round_key-last.result c.transposed-2.result c.args.group.now _ c.requires
-    c.transposed-2.ensures c.scatter.ensures
+    eight_written (cipher w) c.with_round_key-last.result c.transposed-2.result c.rows_turned-2.result c.args.group.now _ c.requires
+    c.transposed-2.ensures c.rows_turned-2.ensures.each c.scatter.ensures
     (λ k below.
     rw (c.with_round_key-last.ensures.each k below, c.shifted-2.ensures.each k below, c.substituted-2.ensures.each k below)
     (rounds_end w (piece 16 k c.args.group.now) c.loop-round.round (omega arith) _ (c.loop-round.invariant.done k below)))
