@@ -1,8 +1,8 @@
 -- The functions h and g, a byte at a time.
 --
 -- Up to the matrix MDS no byte of the word affects another, so each layer goes by bytes. MDS times a
--- column is the sum of its own columns, each times one byte, and words add up as their bytes do. The
--- sum's order doesn't matter: sums are compared bit by bit.
+-- column is the sum of its own columns, each times one byte, and words add up as their bytes do. For g
+-- the four words are entries of tables.
 use Rattle.std.proofs.Common.{◌≡◌, List, [], ◌∷◌, ℕ, map, slice_index, bit_xor, refl, sym, ap, ap₂, ◌∙◌, subst, lit<, lit≤, w32, ◌<◌}
 use Rattle.std.specs.Int.{to_le_bytes}
 use Rattle.std.specs.Int.Bits.{xor_assoc, xor_zero_r}

@@ -70,6 +70,7 @@ two_rounds_more f k s x r m n before after so_far =
     (rounds_more f k s x r (so_far ∙ ap (rounds f k s) before))
     ∙ ap (rounds f k s) two
 
+-- round r is undone, after the m rounds above it
 pub inverse_round_more : (f : ℕ → ℕ) (k s x : List ℕ) (r m n : ℕ) → m + r ≡ 15 → n ≡ m + 1
     → x ≡ inverse_rounds f k s m → inverse_feistel f k r x ≡ inverse_rounds f k s n
 inverse_round_more f k s x r m n number after so_far =
