@@ -9,7 +9,8 @@ use borrow.Rule.Slice.PartMut.{put_mid}
 use Rattle.vc_base.specs.Bytes.{piece}
 use Rattle.vc_base.proofs.Pieces.{piece_inside, piece-append_left, piece-append_right}
 use Rattle.vc_base.proofs.Chunks.{piece-take}
-use Rattle.sector_model.specs.Array.{array_of, Holds, is_in, IsSectorSize, laid, unit, units_of, Volume}
+use Rattle.sector_model.specs.Array.{array_of, Holds, is_in, laid, unit, units_of, Volume}
+use Rattle.vc_layout.specs.Layout.{IsSectorSize}
 
 abbrev pub over : ℕ → List ℕ → List ℕ → List ℕ
 over at ys xs = take at xs ++ (ys ++ drop (at + length ys) xs)

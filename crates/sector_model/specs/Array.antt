@@ -4,7 +4,6 @@
 -- each unit holds, by its number from the volume's start: sector i is the `per_sector` units from
 -- per_sector * i on. The container's units have numbers of their own, and the volume begins at its unit `start`.
 --
--- IsSectorSize n                 a sector may have n bytes
 -- Volume                         what the rules of a history ask of a volume
 -- Array                          what each unit holds
 -- unit k bytes, units_of bytes   the k-th unit of these bytes, counted from 0, and how many they are
@@ -15,12 +14,9 @@
 -- TouchesProtected v first count a unit of them is protected
 -- laid v first bytes a           the array a with these bytes laid over it, from sector first on
 -- Holds v first bytes a          the array a holds these bytes, from sector first on
-use Rattle.std.specs.Prelude.{◌≡◌, ◌<◌, ◌≤◌, ◌⊎◌, ◌&&◌, nat_lt, nat_le, ℕ, ◌+◌, ◌-◌, ◌*◌, ◌/◌, Bool, List, Option, length, if◌then◌else◌}
+use Rattle.std.specs.Prelude.{◌≡◌, ◌<◌, ◌≤◌, ◌&&◌, nat_lt, nat_le, ℕ, ◌+◌, ◌-◌, ◌*◌, ◌/◌, Bool, List, Option, length, if◌then◌else◌}
 use Rattle.hidden_guard.specs.Protection.{Touches}
 use Rattle.vc_base.specs.Bytes.{piece}
-
-abbrev pub IsSectorSize : ℕ → Type 0
-IsSectorSize n = (n ≡ 512) ⊎ (n ≡ 1024) ⊎ (n ≡ 2048) ⊎ (n ≡ 4096)
 
 pub record Volume : Type 0 where
   pub per_sector : ℕ

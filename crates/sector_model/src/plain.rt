@@ -1,7 +1,8 @@
 //! A plain volume in memory.
 ghost use Rattle.std.specs.Prelude.{◌≡◌, ◌≢◌, ◌↔◌, ◌+◌, ◌/◌, ◌%◌, ◌^◌, ◌<◌, ◌≤◌, ◌⊎◌, ◌++◌, IsTrue, ℕ, List, length, false, true, None, Option};
 ghost use Rattle.sector_model.specs.declared.entry.Entry.{Entry};
-ghost use Rattle.sector_model.specs.Array.{Array, array_of, AreSectors, Fits, Holds, IsSectorSize, laid, sectors_of, TouchesProtected};
+ghost use Rattle.sector_model.specs.Array.{Array, array_of, AreSectors, Fits, Holds, laid, sectors_of, TouchesProtected};
+ghost use Rattle.vc_layout.specs.Layout.{IsSectorSize};
 ghost use Rattle.sector_model.specs.Plain.{read_entries, StandsFor, write_entries};
 
 use hidden_guard::{Guard, Verdict};
@@ -30,7 +31,7 @@ pub struct PlainVolume {
 
 impl Model for PlainVolume {
     ghost use Rattle.std.specs.Prelude.{◌≡◌, ◌^◌, ◌%◌, ◌/◌, ◌≤◌, length};
-    ghost use Rattle.sector_model.specs.Array.{IsSectorSize};
+    ghost use Rattle.vc_layout.specs.Layout.{IsSectorSize};
     ghost use Rattle.sector_model.specs.Plain.{Plain};
 
     ghost Value = { Plain };

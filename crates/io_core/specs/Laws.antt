@@ -1,0 +1,2 @@
+-- what a core's fields always keep
+pub mod Invariant

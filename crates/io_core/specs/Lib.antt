@@ -1,0 +1,10 @@
+-- fragments and their states
+pub mod Fragments
+-- a core's state
+pub mod State
+-- what a state stands for
+pub mod Sound
+-- what an event adds to the history
+pub mod Entries
+-- what only this crate's own clauses name
+pub mod Laws

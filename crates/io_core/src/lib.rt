@@ -1,0 +1,33 @@
+//! The core of a volume that several clients write and read at once.
+//!
+//! A `Core` has the container, the cipher, and the writes that are pending. Each call that changes it is one
+//! event, and the core is a plain value: whoever shares it between threads lets one event follow the other.
+//!
+//! ```text
+//!             admit_write
+//!   Prepared -------------> pending: its range is free of reads and other writes
+//!      ^           |
+//!      +-----------+ handed back: denied, frozen, or to be asked again later
+//! ```
+//!
+//! The events so far are admission and flush. Nothing ends a pending write yet.
+//!
+//! A write takes effect when it is admitted. `specs/Sound.antt` says what a state stands for: an opening
+//! state and a history. Each event keeps that, also if the store fails.
+//! Requests are in sectors of the volume, fragments in data units. Only `Core::new` and `Prepared::new`
+//! take memory.
+#![tactic(auto)]
+
+pub use answers::Admit;
+pub use part::PartState;
+pub use prepared::{NoMemory, Prepared};
+pub use state::Core;
+
+pub mod admit;
+pub mod answers;
+pub mod flush;
+pub mod part;
+pub mod prepared;
+pub mod state;
+#[cfg(test)]
+mod tests;
