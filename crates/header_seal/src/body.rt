@@ -1,6 +1,6 @@
 //! The keys of a header, and its body under them.
 ghost use Rattle.std.specs.Prelude.{◌≡◌, ◌≤◌, length};
-ghost use Rattle.kdf_hmac.specs.Pbkdf2.{derived};
+ghost use Rattle.kdf_hmac.specs.Pbkdf2.{IsPim, derived};
 ghost use Rattle.header_seal.specs.Sealed.{HeadersOpenAgain, OpensAgain, sealed, unsealed};
 
 use algorithm_names::Algorithm;
@@ -11,7 +11,7 @@ use vc_header::{BODY, Fields, MATERIAL, write_plain};
 /// The keys that a password derives for the header with this salt of 64 bytes.
 #[tactic(auto, unfolding(kdf_hmac::specs::Pbkdf2::derived))]
 pub fn derive(prf: Prf, password: &Password, pim: u32, salt: &[u8]) -> [u8; 192]
-    requires pim { pim ≤ 2147468 }
+    requires pim { IsPim pim }
     requires salt { length salt.now ≡ 64 }
     ensures { result ≡ derived prf password.now pim salt.now }
 {

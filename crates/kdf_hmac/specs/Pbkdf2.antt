@@ -32,8 +32,11 @@ unfoldable pub pbkdf2_bytes : Prf → List ℕ → List ℕ → ℕ → ℕ → 
 pbkdf2_bytes prf p s c n = take n (joined (λ k. t prf p s c (k + 1)) (block_count prf n))
 
 -- the greatest gives the last count below 2^31 (15,000 + 1,000 times the PIM)
+abbrev pub greatest_pim : ℕ
+greatest_pim = 2147468
+
 abbrev pub IsPim : ℕ → Type 0
-IsPim pim = pim ≤ 2147468
+IsPim pim = pim ≤ greatest_pim
 
 abbrev pub iterations_of : ℕ → ℕ
 iterations_of pim = if pim == 0 then 500000 else 15000 + 1000 * pim
