@@ -1,6 +1,6 @@
 -- What a parser's walk leaves at its end, and the same made of uses.
 --
--- left      what a walk leaves: the rows, or none where a step fails
+-- left      what a walk leaves: the rows, or none if a step fails
 -- added     the rows that uses add one by one, or none
 -- Serves    the rules are those of a form
 use Rattle.std.proofs.Common.{◌≡◌, ◌+◌, ℕ, Bool, true, false, cond, List, [], ◌∷◌, Option, Some, None, min}

@@ -1,4 +1,4 @@
--- A word of digits parses to its value where that is below 2^64, and to nothing else.
+-- A text of digits parses to its value if that is below 2^64, and to nothing else.
 use Rattle.std.proofs.Common.{◌≡◌, ℕ, ◌<◌, ◌^◌, true, false, List, [], ◌∷◌, length, Result, refl, sym, ap, ◌∙◌, ⊎_elim}
 use Rattle.std.specs.Char.{is_ascii_digit}
 use Rattle.std.specs.List.{list_all}

@@ -1,6 +1,6 @@
 -- the command lines
 pub mod Line
--- what a command stands for
+-- the command line of a command
 pub mod Meaning
 -- the limits of its values
 pub mod Ranges

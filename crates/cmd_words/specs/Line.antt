@@ -9,7 +9,7 @@
 -- commands      the table: what each command may have, and what it makes of it
 -- read f words  what is given: each position, option and flag with its value
 -- line words    the command of a whole line with its values, or none
-use Rattle.std.specs.Prelude.{ℕ, ◌+◌, ◌-◌, ◌*◌, ◌^◌, ◌==◌, ◌&&◌, nat_lt, nat_le, not, Bool, true, false, if◌then◌else◌, List, [], ◌∷◌, codes, length, map, drop, find, Option, Some, None, is_some, option_map, option_and_then}
+use Rattle.std.specs.Prelude.{ℕ, ◌+◌, ◌-◌, ◌*◌, ◌^◌, ◌==◌, ◌&&◌, ◌||◌, nat_lt, nat_le, not, Bool, true, false, if◌then◌else◌, List, [], ◌∷◌, codes, length, map, drop, find, Option, Some, None, is_some, option_map, option_and_then}
 use Rattle.std.specs.Char.{is_ascii_digit, digit_value}
 use Rattle.std.specs.List.{list_all, list_any, before_first, after_first}
 use Rattle.std.specs.Option.{option_map_or}
@@ -17,6 +17,7 @@ use Rattle.std.specs.Str.{bytes_eq}
 use Rattle.std.specs.Str.Parse.{digits_value}
 use Rattle.kdf_hmac.specs.declared.prf.Prf.{Prf}
 use Rattle.kdf_hmac.specs.declared.prf.Prf.TheVariants.{Sha512}
+use Rattle.kdf_hmac.specs.Pbkdf2.{greatest_pim}
 use Rattle.kdf_hmac.specs.Prfs.{prf_named}
 use Rattle.algorithm_names.specs.declared.algorithm.Algorithm.{Algorithm}
 use Rattle.algorithm_names.specs.declared.algorithm.Algorithm.TheVariants.{Aes}
@@ -143,7 +144,14 @@ abbrev pub password_in : Text → Option Text
 password_in text = if nat_le 1 (length text) && nat_le (length text) 128 then Some text else None
 
 abbrev pub pim_in : Text → Option ℕ
-pim_in text = number_within 0 2147468 text
+pim_in text = number_within 0 greatest_pim text
+
+-- the size of a sector
+abbrev pub is_sector_size : ℕ → Bool
+is_sector_size n = n == 512 || n == 1024 || n == 2048 || n == 4096
+
+abbrev pub sector_in : Text → Option ℕ
+sector_in text = option_and_then (λ n. if is_sector_size n then Some n else None) (number_in text)
 
 -- two hexadecimal digits, of either case, are a byte
 unfoldable pub bytes_in : Text → List ℕ
@@ -207,6 +215,9 @@ new_prf_of us = perhaps prf_named (value_of (codes "new-prf") us)
 abbrev pub algorithm_of : List Use → Option Algorithm
 algorithm_of us = or_default Aes named (value_of (codes "algorithm") us)
 
+abbrev pub sector_of : List Use → Option ℕ
+sector_of us = or_default 512 sector_in (value_of (codes "sector") us)
+
 abbrev pub choice_of : List Use → Option Choice
 choice_of us = or_default choice.Any choice_in (value_of (codes "kind") us)
 
@@ -254,9 +265,9 @@ tried_by_serve us =
 -- ---- commands
 
 pub data Line : Type 0 where
-  -- path, size, password, random key, PIM, PRF, algorithm
-  format : Text → ℕ → Text → List ℕ → ℕ → Prf → Algorithm → Line
-  hide : Text → ℕ → Text → List ℕ → ℕ → Prf → Algorithm → Line
+  -- path, size, password, random key, PIM, PRF, algorithm, sector size
+  format : Text → ℕ → Text → List ℕ → ℕ → Prf → Algorithm → ℕ → Line
+  hide : Text → ℕ → Text → List ℕ → ℕ → Prf → Algorithm → ℕ → Line
   -- path, password, PIM, kind
   info : Text → Text → ℕ → Kind → Line
   -- path, first sector, count of sectors, password, PIM, kind
@@ -276,10 +287,10 @@ None ⊗ a = None
 Some f ⊗ None = None
 Some f ⊗ Some a = Some (f a)
 
-abbrev pub made_of : (Text → ℕ → Text → List ℕ → ℕ → Prf → Algorithm → Line) → List Use → Option Line
+abbrev pub made_of : (Text → ℕ → Text → List ℕ → ℕ → Prf → Algorithm → ℕ → Line) → List Use → Option Line
 made_of make us =
     Some make ⊗ path_in us ⊗ number_of (codes "size") us ⊗ password_of (codes "password") us ⊗ random_of us
-    ⊗ pim_of (codes "pim") us ⊗ prf_of us ⊗ algorithm_of us
+    ⊗ pim_of (codes "pim") us ⊗ prf_of us ⊗ algorithm_of us ⊗ sector_of us
 
 abbrev pub info_of : List Use → Option Line
 info_of us =
@@ -338,8 +349,8 @@ row name positions options flags made = record {
 --  name, positions, options, flags, and the command of what is given
 abbrev pub commands : List Row
 commands =
-    row (codes "format") (codes "PATH") (codes "size password random pim prf algorithm") [] (made_of format)
-    ∷ row (codes "hide") (codes "PATH") (codes "size password random pim prf algorithm") [] (made_of hide)
+    row (codes "format") (codes "PATH") (codes "size password random pim prf algorithm sector") [] (made_of format)
+    ∷ row (codes "hide") (codes "PATH") (codes "size password random pim prf algorithm sector") [] (made_of hide)
     ∷ row (codes "info") (codes "PATH") (codes "password pim kind") (codes "backup") info_of
     ∷ row (codes "cat") (codes "PATH FIRST COUNT") (codes "password pim kind") (codes "backup") cat_of
     ∷ row (codes "passwd") (codes "PATH") (codes "password new random pim new-pim new-prf kind") (codes "backup") passwd_of

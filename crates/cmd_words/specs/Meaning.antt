@@ -1,14 +1,14 @@
--- The command line that a command stands for.
+-- The command line of a command.
 use Rattle.std.specs.Prelude.{Option, Some, None, string_bytes}
 use Rattle.cmd_words.specs.Line.{Line, Text, format, hide, info, cat, passwd, restore, serve, drill}
 use Rattle.cmd_words.specs.declared.command.Command.{Command}
 use Rattle.cmd_words.specs.declared.command.Command.TheVariants.{Format, Hide, Info, Cat, Passwd, Restore, Serve, Drill}
 
 abbrev pub meaning : Command → Line
-meaning (Format path size password random pim prf algorithm) =
-    format (string_bytes path) size password random pim prf algorithm
-meaning (Hide path size password random pim prf algorithm) =
-    hide (string_bytes path) size password random pim prf algorithm
+meaning (Format path size password random pim prf algorithm sector) =
+    format (string_bytes path) size password random pim prf algorithm sector
+meaning (Hide path size password random pim prf algorithm sector) =
+    hide (string_bytes path) size password random pim prf algorithm sector
 meaning (Info path password pim kind) = info (string_bytes path) password pim kind
 meaning (Cat path first count password pim kind) = cat (string_bytes path) first count password pim kind
 meaning (Passwd path password new_password random pim new_pim new_prf kind) =
@@ -20,8 +20,8 @@ meaning (Drill n) = drill n
 
 -- the path that a command names
 abbrev pub path_of : Line → Option Text
-path_of (format path size password random pim prf algorithm) = Some path
-path_of (hide path size password random pim prf algorithm) = Some path
+path_of (format path size password random pim prf algorithm sector) = Some path
+path_of (hide path size password random pim prf algorithm sector) = Some path
 path_of (info path password pim kind) = Some path
 path_of (cat path first count password pim kind) = Some path
 path_of (passwd path password new_password random pim new_pim new_prf kind) = Some path

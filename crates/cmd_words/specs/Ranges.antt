@@ -1,7 +1,12 @@
 -- The limits that the values of a line keep.
 use Rattle.std.specs.Prelude.{ℕ, ◌≤◌, ◌<◌, ◌^◌, Option, IfSome}
 use Rattle.kdf_hmac.specs.Pbkdf2.{IsPim}
+use Rattle.vc_layout.specs.Layout.{IsSectorSize}
 use Rattle.cmd_words.specs.Line.{Line, Text, format, hide, info, cat, passwd, restore, serve, drill}
+
+pub record IsMakingInRange (pim sector : ℕ) : Type 0 where
+  pub pim_in : IsPim pim
+  pub sector_in : IsSectorSize sector
 
 pub record IsPasswdInRange (pim new_pim : ℕ) : Type 0 where
   pub pim_in : IsPim pim
@@ -15,8 +20,8 @@ pub record IsServeInRange (pim : ℕ) (protect : Option (Text × ℕ)) (helpers 
   pub workers_most : workers ≤ 8
 
 abbrev pub IsInRange : Line → Type 0
-IsInRange (format path size password random pim prf algorithm) = IsPim pim
-IsInRange (hide path size password random pim prf algorithm) = IsPim pim
+IsInRange (format path size password random pim prf algorithm sector) = IsMakingInRange pim sector
+IsInRange (hide path size password random pim prf algorithm sector) = IsMakingInRange pim sector
 IsInRange (info path password pim kind) = IsPim pim
 IsInRange (cat path first count password pim kind) = IsPim pim
 IsInRange (passwd path password new_password random pim new_pim new_prf kind) = IsPasswdInRange pim new_pim

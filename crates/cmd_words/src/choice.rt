@@ -12,7 +12,7 @@ pub enum Choice {
     Hidden,
 }
 
-/// The slots of a choice, at the backup headers where `backup` is set.
+/// The kind of a choice, at the backup headers if `backup` is set.
 pub fn kind_of(choice: Choice, backup: bool) -> Kind
     ensures { result ≡ kind_of choice backup }
 {

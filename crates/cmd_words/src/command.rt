@@ -18,6 +18,8 @@ pub enum Command {
         pim: u32,
         prf: Prf,
         algorithm: Algorithm,
+        /// The size of a sector in bytes.
+        sector: u32,
     },
     Hide {
         path: String,
@@ -27,6 +29,8 @@ pub enum Command {
         pim: u32,
         prf: Prf,
         algorithm: Algorithm,
+        /// The size of a sector in bytes.
+        sector: u32,
     },
     Info {
         path: String,
@@ -49,7 +53,7 @@ pub enum Command {
         random: [u8; 32],
         pim: u32,
         new_pim: u32,
-        /// None stands for the PRF of the header that is opened.
+        /// None keeps the PRF of the header that is opened.
         new_prf: Option<Prf>,
         kind: Kind,
     },

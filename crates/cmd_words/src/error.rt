@@ -3,7 +3,7 @@
 /// Why no command was read.
 #[derive(Clone, Copy, Debug, PartialEq, Eq)]
 pub enum WordsError {
-    /// The words make no command line.
+    /// The arguments are not a valid command line.
     Usage,
     /// Out of memory.
     NoMemory,

@@ -51,7 +51,15 @@ pub(crate) fn form_of(name: Name) -> Form
     match name {
         Name::Format | Name::Hide => Form {
             positions: &["PATH"],
-            options: &["size", "password", "random", "pim", "prf", "algorithm"],
+            options: &[
+                "size",
+                "password",
+                "random",
+                "pim",
+                "prf",
+                "algorithm",
+                "sector",
+            ],
             flags: &[],
         },
         Name::Info => Form {

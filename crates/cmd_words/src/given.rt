@@ -4,12 +4,13 @@ ghost use Rattle.kdf_hmac.specs.Pbkdf2.{IsPim};
 ghost use Rattle.cmd_words.specs.Line.{algorithm_of, choice_of, drill_number_of, helpers_of};
 ghost use Rattle.cmd_words.specs.Line.{is_backup, new_prf_of, number_of, password_of, perhaps};
 ghost use Rattle.cmd_words.specs.Line.{password_in, pim_in, pim_of, prf_of, random_of, value_of};
-ghost use Rattle.cmd_words.specs.Line.{workers_of};
+ghost use Rattle.cmd_words.specs.Line.{sector_of, workers_of};
+ghost use Rattle.vc_layout.specs.Layout.{IsSectorSize};
 ghost use Rattle.cmd_words.specs.Laws.{uses_found};
 
 use crate::choice::Choice;
 use crate::values::{
-    choice_in, number_in, number_within, password_in, pim_in, random_in, small_within,
+    choice_in, number_in, number_within, password_in, pim_in, random_in, sector_in, small_within,
 };
 use algorithm_names::Algorithm;
 use clap::ArgMatches;
@@ -100,6 +101,16 @@ pub(crate) fn algorithm_of(matches: &ArgMatches<'_>) -> Option<Algorithm>
     match value(matches, "algorithm") {
         Some(text) => Algorithm::from_name(text),
         None => Some(Algorithm::Aes),
+    }
+}
+
+pub(crate) fn sector_of(matches: &ArgMatches<'_>) -> Option<u32>
+    ensures value { result ≡ sector_of (uses_found matches.now) }
+    ensures sizes { IfSome result IsSectorSize }
+{
+    match value(matches, "sector") {
+        Some(text) => sector_in(text),
+        None => Some(512),
     }
 }
 

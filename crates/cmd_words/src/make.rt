@@ -12,7 +12,8 @@ use crate::choice::{Choice, kind_of};
 use crate::command::Command;
 use crate::given::{
     algorithm_of, choice_of, drill_number_of, helpers_of, is_backup, new_prf_of, number_of,
-    password_of, pim_of, prf_of, protect_password_of, protect_pim_of, random_of, workers_of,
+    password_of, pim_of, prf_of, protect_password_of, protect_pim_of, random_of, sector_of,
+    workers_of,
 };
 use clap::ArgMatches;
 use kdf_hmac::Password;
@@ -93,6 +94,7 @@ pub(crate) fn make_format(matches: &ArgMatches<'_>, path: Option<String>) -> Opt
     let pim = pim_of(matches, "pim")?;
     let prf = prf_of(matches)?;
     let algorithm = algorithm_of(matches)?;
+    let sector = sector_of(matches)?;
     Some(Command::Format {
         path,
         size,
@@ -101,6 +103,7 @@ pub(crate) fn make_format(matches: &ArgMatches<'_>, path: Option<String>) -> Opt
         pim,
         prf,
         algorithm,
+        sector,
     })
 }
 
@@ -117,6 +120,7 @@ pub(crate) fn make_hide(matches: &ArgMatches<'_>, path: Option<String>) -> Optio
     let pim = pim_of(matches, "pim")?;
     let prf = prf_of(matches)?;
     let algorithm = algorithm_of(matches)?;
+    let sector = sector_of(matches)?;
     Some(Command::Hide {
         path,
         size,
@@ -125,6 +129,7 @@ pub(crate) fn make_hide(matches: &ArgMatches<'_>, path: Option<String>) -> Optio
         pim,
         prf,
         algorithm,
+        sector,
     })
 }
 

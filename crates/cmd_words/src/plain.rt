@@ -1,10 +1,11 @@
-//! Words that `clap` would read in a way of its own.
+//! Arguments that `clap` would read in a way of its own.
 ghost use Rattle.std.specs.Prelude.{◌≡◌, map, string_bytes};
 ghost use Rattle.std.specs.List.{list_all};
 ghost use Rattle.cmd_words.specs.Laws.{is_long_or_plain};
 
-/// Whether each word that begins with a hyphen begins with two and has more after them. A parser of
-/// options takes `-` for a value, `--` for the end of all options, and `-x` for a bundle of flags.
+/// Whether each argument that begins with a hyphen begins with two and has more after them. A
+/// parser of options takes `-` for a value, `--` for the end of all options, and `-x` for a bundle
+/// of flags.
 pub(crate) fn has_long_words(words: &[String]) -> bool
     ensures { result ≡ list_all is_long_or_plain (map string_bytes words.now) }
 {

@@ -89,9 +89,10 @@ fn shown_command(alloc: Global, command: &Command) -> Result<String, AllocError>
             pim,
             prf,
             algorithm,
+            sector,
         } => {
             let digits = digits_of(alloc, random)?;
-            let names = format!(in alloc; "{}|{}", prf.name(), algorithm.name())?;
+            let names = format!(in alloc; "{}|{}|{sector}", prf.name(), algorithm.name())?;
             format!(in alloc;
                 "format|{path}|{size}|{}|{digits}|{pim}|{names}",
                 text_of(password)
@@ -105,9 +106,10 @@ fn shown_command(alloc: Global, command: &Command) -> Result<String, AllocError>
             pim,
             prf,
             algorithm,
+            sector,
         } => {
             let digits = digits_of(alloc, random)?;
-            let names = format!(in alloc; "{}|{}", prf.name(), algorithm.name())?;
+            let names = format!(in alloc; "{}|{}|{sector}", prf.name(), algorithm.name())?;
             format!(in alloc;
                 "hide|{path}|{size}|{}|{digits}|{pim}|{names}",
                 text_of(password)
@@ -207,6 +209,11 @@ fn cat_takes_two_numbers(rt: HostRuntime) -> Result<(), Fail> {
 fn format_and_hide_take_a_size_and_a_key(rt: HostRuntime) -> Result<(), Fail> {
     check_lines(&rt, rt.alloc(), &lines::FORMAT_1)?;
     check_lines(&rt, rt.alloc(), &lines::FORMAT_2)
+}
+
+#[test]
+fn format_and_hide_take_one_of_four_sector_sizes(rt: HostRuntime) -> Result<(), Fail> {
+    check_lines(&rt, rt.alloc(), &lines::SECTOR)
 }
 
 #[test]

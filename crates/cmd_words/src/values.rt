@@ -4,7 +4,8 @@ ghost use Rattle.std.specs.Char.{digit_value, is_ascii_digit};
 ghost use Rattle.std.specs.List.{list_all};
 ghost use Rattle.kdf_hmac.specs.Pbkdf2.{IsPim};
 ghost use Rattle.cmd_words.specs.Line.{bytes_in, choice_in, number_in, number_within, password_in};
-ghost use Rattle.cmd_words.specs.Line.{pim_in, random_in};
+ghost use Rattle.cmd_words.specs.Line.{pim_in, random_in, sector_in};
+ghost use Rattle.vc_layout.specs.Layout.{IsSectorSize};
 
 use crate::choice::Choice;
 use kdf_hmac::{GREATEST_PIM, Password};
@@ -49,12 +50,26 @@ pub(crate) fn password_in(text: &str) -> Option<Password>
     Password::new(text.as_bytes())
 }
 
-/// A PIM, of which 0 stands for none.
+/// A PIM; 0 is none.
 pub(crate) fn pim_in(text: &str) -> Option<u32>
     ensures value { result ≡ pim_in text.now }
     ensures limit { IfSome result IsPim }
 {
     small_within(0, GREATEST_PIM, text)
+}
+
+/// The size of a sector.
+pub(crate) fn sector_in(text: &str) -> Option<u32>
+    ensures value { result ≡ sector_in text.now }
+    ensures sizes { IfSome result IsSectorSize }
+{
+    match number_in(text)? {
+        512 => Some(512),
+        1024 => Some(1024),
+        2048 => Some(2048),
+        4096 => Some(4096),
+        _ => None,
+    }
 }
 
 /// Which headers are tried.

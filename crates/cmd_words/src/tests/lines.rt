@@ -240,19 +240,19 @@ pub(crate) static CAT: [(&str, &str); 37] = [
 pub(crate) static FORMAT_1: [(&str, &str); 50] = [
     (
         "format|C1|--size=1048576|--password=x|--random=@",
-        "format|C1|1048576|x|@|0|sha512|aes",
+        "format|C1|1048576|x|@|0|sha512|aes|512",
     ),
     (
         "hide|C1|--size=1048576|--password=x|--random=@",
-        "hide|C1|1048576|x|@|0|sha512|aes",
+        "hide|C1|1048576|x|@|0|sha512|aes|512",
     ),
     (
         "format|--size|1048576|--password|x|--random|@|C1",
-        "format|C1|1048576|x|@|0|sha512|aes",
+        "format|C1|1048576|x|@|0|sha512|aes|512",
     ),
     (
         "format|--random=@|--password=x|--size=1|C1",
-        "format|C1|1|x|@|0|sha512|aes",
+        "format|C1|1|x|@|0|sha512|aes|512",
     ),
     ("format|C1|--password=x|--random=@", "usage"),
     ("format|C1|--size=1|--random=@", "usage"),
@@ -281,11 +281,11 @@ pub(crate) static FORMAT_1: [(&str, &str); 50] = [
     ),
     (
         "format|C1|--size=0|--password=x|--random=@",
-        "format|C1|0|x|@|0|sha512|aes",
+        "format|C1|0|x|@|0|sha512|aes|512",
     ),
     (
         "format|C1|--size=18446744073709551615|--password=x|--random=@",
-        "format|C1|18446744073709551615|x|@|0|sha512|aes",
+        "format|C1|18446744073709551615|x|@|0|sha512|aes|512",
     ),
     (
         "format|C1|--size=18446744073709551616|--password=x|--random=@",
@@ -298,11 +298,11 @@ pub(crate) static FORMAT_1: [(&str, &str); 50] = [
     ("format|C1|--size=1|--password=x|--random", "usage"),
     (
         "format|C1|--size=1|--password=x|--random=^",
-        "format|C1|1|x|@|0|sha512|aes",
+        "format|C1|1|x|@|0|sha512|aes|512",
     ),
     (
         "format|C1|--size=1|--password=x|--random|^",
-        "format|C1|1|x|@|0|sha512|aes",
+        "format|C1|1|x|@|0|sha512|aes|512",
     ),
     ("format|C1|--size=1|--password=x|--random=@0", "usage"),
     ("format|C1|--size=1|--password=x|--random=0@", "usage"),
@@ -312,11 +312,11 @@ pub(crate) static FORMAT_1: [(&str, &str); 50] = [
     ("format|C1|--size=1|--password=x|--random=$0", "usage"),
     (
         "format|C1|--size=1|--password=x|--random=$00",
-        "format|C1|1|x|$00|0|sha512|aes",
+        "format|C1|1|x|$00|0|sha512|aes|512",
     ),
     (
         "format|C1|--size=1|--password=x|--random=$fF",
-        "format|C1|1|x|$ff|0|sha512|aes",
+        "format|C1|1|x|$ff|0|sha512|aes|512",
     ),
     ("format|C1|--size=1|--password=x|--random=g$0", "usage"),
     ("format|C1|--size=1|--password=x|--random=$0G", "usage"),
@@ -324,39 +324,39 @@ pub(crate) static FORMAT_1: [(&str, &str); 50] = [
     ("format|C1|--size=1|--password=x|--random=+$0", "usage"),
     (
         "format|C1|--size=1|--password=x|--random=@|--algorithm=aes",
-        "format|C1|1|x|@|0|sha512|aes",
+        "format|C1|1|x|@|0|sha512|aes|512",
     ),
     (
         "format|C1|--size=1|--password=x|--random=@|--algorithm=serpent",
-        "format|C1|1|x|@|0|sha512|serpent",
+        "format|C1|1|x|@|0|sha512|serpent|512",
     ),
     (
         "format|C1|--size=1|--password=x|--random=@|--algorithm=twofish",
-        "format|C1|1|x|@|0|sha512|twofish",
+        "format|C1|1|x|@|0|sha512|twofish|512",
     ),
     (
         "format|C1|--size=1|--password=x|--random=@|--algorithm=aes-twofish",
-        "format|C1|1|x|@|0|sha512|aes-twofish",
+        "format|C1|1|x|@|0|sha512|aes-twofish|512",
     ),
     (
         "format|C1|--size=1|--password=x|--random=@|--algorithm=aes-twofish-serpent",
-        "format|C1|1|x|@|0|sha512|aes-twofish-serpent",
+        "format|C1|1|x|@|0|sha512|aes-twofish-serpent|512",
     ),
     (
         "format|C1|--size=1|--password=x|--random=@|--algorithm=serpent-aes",
-        "format|C1|1|x|@|0|sha512|serpent-aes",
+        "format|C1|1|x|@|0|sha512|serpent-aes|512",
     ),
     (
         "format|C1|--size=1|--password=x|--random=@|--algorithm=serpent-twofish-aes",
-        "format|C1|1|x|@|0|sha512|serpent-twofish-aes",
+        "format|C1|1|x|@|0|sha512|serpent-twofish-aes|512",
     ),
     (
         "format|C1|--size=1|--password=x|--random=@|--algorithm=twofish-serpent",
-        "format|C1|1|x|@|0|sha512|twofish-serpent",
+        "format|C1|1|x|@|0|sha512|twofish-serpent|512",
     ),
     (
         "format|C1|--size=1|--password=x|--random=@|--algorithm|serpent",
-        "format|C1|1|x|@|0|sha512|serpent",
+        "format|C1|1|x|@|0|sha512|serpent|512",
     ),
     (
         "format|C1|--size=1|--password=x|--random=@|--algorithm=AES",
@@ -383,15 +383,15 @@ pub(crate) static FORMAT_2: [(&str, &str); 13] = [
     ),
     (
         "format|C1|--size=1|--password=x|--random=@|--prf=sha512",
-        "format|C1|1|x|@|0|sha512|aes",
+        "format|C1|1|x|@|0|sha512|aes|512",
     ),
     (
         "format|C1|--size=1|--password=x|--random=@|--prf=sha256",
-        "format|C1|1|x|@|0|sha256|aes",
+        "format|C1|1|x|@|0|sha256|aes|512",
     ),
     (
         "hide|C1|--size=1|--password=x|--random=@|--prf|sha256|--algorithm=twofish|--pim=7",
-        "hide|C1|1|x|@|7|sha256|twofish",
+        "hide|C1|1|x|@|7|sha256|twofish|512",
     ),
     (
         "format|C1|--size=1|--password=x|--random=@|--prf=sha1",
@@ -412,12 +412,131 @@ pub(crate) static FORMAT_2: [(&str, &str); 13] = [
     ),
     (
         "format|C1|--size=1|--password=x|--random=@|--pim=2147468",
-        "format|C1|1|x|@|2147468|sha512|aes",
+        "format|C1|1|x|@|2147468|sha512|aes|512",
     ),
     (
         "format|C1|--size=1|--password=x|--random=@|--pim=2147469",
         "usage",
     ),
+];
+
+pub(crate) static SECTOR: [(&str, &str); 32] = [
+    (
+        "format|C1|--size=1|--password=x|--random=@|--sector=512",
+        "format|C1|1|x|@|0|sha512|aes|512",
+    ),
+    (
+        "format|C1|--size=1|--password=x|--random=@|--sector=1024",
+        "format|C1|1|x|@|0|sha512|aes|1024",
+    ),
+    (
+        "format|C1|--size=1|--password=x|--random=@|--sector=2048",
+        "format|C1|1|x|@|0|sha512|aes|2048",
+    ),
+    (
+        "format|C1|--size=1|--password=x|--random=@|--sector=4096",
+        "format|C1|1|x|@|0|sha512|aes|4096",
+    ),
+    (
+        "hide|C1|--size=1|--password=x|--random=@|--sector=512",
+        "hide|C1|1|x|@|0|sha512|aes|512",
+    ),
+    (
+        "hide|C1|--size=1|--password=x|--random=@|--sector=1024",
+        "hide|C1|1|x|@|0|sha512|aes|1024",
+    ),
+    (
+        "hide|C1|--size=1|--password=x|--random=@|--sector=2048",
+        "hide|C1|1|x|@|0|sha512|aes|2048",
+    ),
+    (
+        "hide|C1|--size=1|--password=x|--random=@|--sector=4096",
+        "hide|C1|1|x|@|0|sha512|aes|4096",
+    ),
+    (
+        "format|--sector|4096|C1|--size=1|--password=x|--random=@",
+        "format|C1|1|x|@|0|sha512|aes|4096",
+    ),
+    (
+        "format|C1|--size=1|--password=x|--random=@|--sector=00000000000000004096",
+        "format|C1|1|x|@|0|sha512|aes|4096",
+    ),
+    (
+        "format|C1|--size=1|--password=x|--random=@|--sector=0",
+        "usage",
+    ),
+    (
+        "format|C1|--size=1|--password=x|--random=@|--sector=1",
+        "usage",
+    ),
+    (
+        "format|C1|--size=1|--password=x|--random=@|--sector=256",
+        "usage",
+    ),
+    (
+        "format|C1|--size=1|--password=x|--random=@|--sector=511",
+        "usage",
+    ),
+    (
+        "format|C1|--size=1|--password=x|--random=@|--sector=513",
+        "usage",
+    ),
+    (
+        "format|C1|--size=1|--password=x|--random=@|--sector=1536",
+        "usage",
+    ),
+    (
+        "format|C1|--size=1|--password=x|--random=@|--sector=4095",
+        "usage",
+    ),
+    (
+        "format|C1|--size=1|--password=x|--random=@|--sector=4097",
+        "usage",
+    ),
+    (
+        "format|C1|--size=1|--password=x|--random=@|--sector=8192",
+        "usage",
+    ),
+    (
+        "format|C1|--size=1|--password=x|--random=@|--sector=4294967808",
+        "usage",
+    ),
+    (
+        "format|C1|--size=1|--password=x|--random=@|--sector=",
+        "usage",
+    ),
+    (
+        "format|C1|--size=1|--password=x|--random=@|--sector=-512",
+        "usage",
+    ),
+    (
+        "format|C1|--size=1|--password=x|--random=@|--sector=4K",
+        "usage",
+    ),
+    (
+        "hide|C1|--size=1|--password=x|--random=@|--sector=513",
+        "usage",
+    ),
+    (
+        "format|C1|--size=1|--password=x|--random=@|--sector",
+        "usage",
+    ),
+    (
+        "format|C1|--size=1|--password=x|--random=@|--sector=512|--sector=512",
+        "usage",
+    ),
+    (
+        "format|C1|--size=1|--password=x|--random=@|--sectors=512",
+        "usage",
+    ),
+    ("info|C1|--password=x|--sector=512", "usage"),
+    ("cat|C1|0|1|--password=x|--sector=512", "usage"),
+    (
+        "passwd|C1|--password=x|--new=y|--random=@|--sector=512",
+        "usage",
+    ),
+    ("restore|C1|--password=x|--random=@|--sector=512", "usage"),
+    ("serve|C1|--password=x|--sector=512", "usage"),
 ];
 
 pub(crate) static PASSWD: [(&str, &str); 26] = [
