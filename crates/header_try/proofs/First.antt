@@ -2,7 +2,7 @@
 --
 -- The candidates of a kind are those of its slots, one slot after the other, and a slot's are those of its PRFs. So
 -- the first valid one is in the first of these lists that has one.
-use Rattle.std.proofs.Common.{◌≡◌, ◌<◌, ℕ, ◌+◌, ◌-◌, Bool, true, List, [], ◌∷◌, ◌++◌, length, take, drop, Option, Some, None, sym, ap, ap₂, ◌∙◌, subst, arith}
+use Rattle.std.proofs.Common.{◌≡◌, ℕ, ◌+◌, ◌-◌, Bool, true, List, [], ◌∷◌, ◌++◌, length, take, drop, Option, Some, None, sym, ap, ap₂, ◌∙◌, subst, arith}
 use Rattle.std.specs.Prelude.{◌↔◌, find, map, Contains, IfSome, MatchOption, option_map, slice_range}
 use Rattle.std.specs.List.{flat_map}
 use Rattle.kdf_hmac.specs.declared.prf.Prf.{Prf}

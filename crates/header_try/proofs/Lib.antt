@@ -4,5 +4,3 @@ mod Bodies
 mod Finding
 -- opening gives the first valid candidate
 mod First
--- reads let a crash leave nothing more
-mod Crash

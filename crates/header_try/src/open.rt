@@ -1,5 +1,6 @@
 //! Opening over a store.
 ghost use Rattle.std.specs.Prelude.{◌≡◌, ◌≤◌, ◌≢◌, ℕ, [], ◌∷◌, IfSome, IfOk, OnOk, IsErr, Err, None, IsErrOf, Contains, MatchOption, find, option_map};
+ghost use Rattle.kdf_hmac.specs.Pbkdf2.{IsPim};
 ghost use Rattle.vc_base.specs.Faults.{HasCause};
 ghost use Rattle.vc_layout.specs.Kinds.{slots_of};
 ghost use Rattle.vc_layout.specs.Layout.{IsContainerLength};
@@ -25,7 +26,7 @@ pub fn open_plain<D: Store>(
     pim: u32,
     kind: Kind,
 ) -> Result<Opened, OpenError>
-    requires { pim ≤ 2147468 }
+    requires { IsPim pim }
 
     // If the store's contents are known: which candidate is opened, and when none is.
     ensures opened { IfOk result (λ o. IfSome (D.image disk.old) (λ b. IsFirst o kind b p.now pim)) }
@@ -94,7 +95,7 @@ fn open_slot<D: Store>(
     slot: Slot,
     len: u64,
 ) -> Result<Option<Opened>, Failed>
-    requires pim { pim ≤ 2147468 }
+    requires pim { IsPim pim }
     requires len { 262656 ≤ len }
     requires size { len ≡ D.size disk.old }
     ensures found { IfOk result (λ r. FoundIn (D.image disk.old) slot p.now pim (option_map candidate_of r)) }
@@ -116,7 +117,7 @@ fn open_slot<D: Store>(
 
 // The first valid candidate of a slot, by its header.
 fn try_header(p: &Password, pim: u32, header: &[u8; HEADER], slot: Slot, len: u64) -> Option<Opened>
-    requires pim { pim ≤ 2147468 }
+    requires pim { IsPim pim }
     requires len { 262656 ≤ len }
     ensures first { option_map candidate_of result ≡ find (is_valid_under header.now len p.now pim) (of_slot slot) }
     ensures fields { IfSome result (λ o. o.fields ≡ fields_of (plain_by o.prf o.algorithm p.now pim header.now)) }
@@ -138,7 +139,7 @@ fn try_prf(
     slot: Slot,
     len: u64,
 ) -> Option<Opened>
-    requires pim { pim ≤ 2147468 }
+    requires pim { IsPim pim }
     requires len { 262656 ≤ len }
     ensures first { option_map candidate_of result
         ≡ find (is_valid_under header.now len p.now pim) (candidates_of slot prf) }

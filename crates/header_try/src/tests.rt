@@ -8,8 +8,8 @@ use std::process::Abort;
 use std::test::Fail;
 use vc_header::{Fields, HEADER, MATERIAL, SALT, header_of};
 use vc_layout::Kind::{Any, AnyBackup, HiddenBackup, HiddenOnly, StandardBackup, StandardOnly};
-use vc_layout::Slot::{BackupHidden, BackupStandard, Hidden, Standard};
 use vc_layout::Slot;
+use vc_layout::Slot::{BackupHidden, BackupStandard, Hidden, Standard};
 use vc_outside::MemStore;
 
 fn password(rt: &impl Abort, text: &[u8]) -> Password {
@@ -63,18 +63,43 @@ fn store<R: AllocGlobal + Abort>(
 #[test]
 fn each_kind_opens_its_first_slot(rt: HostRuntime) -> Result<(), Fail> {
     let headers = [
-        (Standard, b"horse".as_slice(), Prf::Sha512, Algorithm::Serpent),
+        (
+            Standard,
+            b"horse".as_slice(),
+            Prf::Sha512,
+            Algorithm::Serpent,
+        ),
         (Hidden, b"horse".as_slice(), Prf::Sha512, Algorithm::Aes),
-        (BackupStandard, b"horse".as_slice(), Prf::Sha256, Algorithm::Twofish),
-        (BackupHidden, b"horse".as_slice(), Prf::Sha256, Algorithm::AesTwofish),
+        (
+            BackupStandard,
+            b"horse".as_slice(),
+            Prf::Sha256,
+            Algorithm::Twofish,
+        ),
+        (
+            BackupHidden,
+            b"horse".as_slice(),
+            Prf::Sha256,
+            Algorithm::AesTwofish,
+        ),
     ];
     let rows = [
         (Any, Standard, Prf::Sha512, Algorithm::Serpent),
         (StandardOnly, Standard, Prf::Sha512, Algorithm::Serpent),
         (HiddenOnly, Hidden, Prf::Sha512, Algorithm::Aes),
         (AnyBackup, BackupStandard, Prf::Sha256, Algorithm::Twofish),
-        (StandardBackup, BackupStandard, Prf::Sha256, Algorithm::Twofish),
-        (HiddenBackup, BackupHidden, Prf::Sha256, Algorithm::AesTwofish),
+        (
+            StandardBackup,
+            BackupStandard,
+            Prf::Sha256,
+            Algorithm::Twofish,
+        ),
+        (
+            HiddenBackup,
+            BackupHidden,
+            Prf::Sha256,
+            Algorithm::AesTwofish,
+        ),
     ];
     for (kind, slot, prf, algorithm) in rows {
         // there is one read, so the second would fail
@@ -97,21 +122,92 @@ fn a_slot_is_read_once_and_only_if_none_before_it_opens(rt: HostRuntime) -> Resu
     let headers = [
         (Standard, b"outer".as_slice(), Prf::Sha512, Algorithm::Aes),
         (Hidden, b"inner".as_slice(), Prf::Sha256, Algorithm::Aes),
-        (BackupHidden, b"inner".as_slice(), Prf::Sha256, Algorithm::Aes),
+        (
+            BackupHidden,
+            b"inner".as_slice(),
+            Prf::Sha256,
+            Algorithm::Aes,
+        ),
     ];
     // the password, the kind, the call that fails, and the slot that is opened or why none is
     let rows = [
-        ("in the first slot", b"outer".as_slice(), Any, 1, Ok(Standard)),
-        ("the first read fails", b"outer".as_slice(), Any, 0, Err(OpenError::ReadFault)),
-        ("in the second slot", b"inner".as_slice(), Any, 2, Ok(Hidden)),
-        ("the second read fails", b"inner".as_slice(), Any, 1, Err(OpenError::ReadFault)),
-        ("in no slot", b"other".as_slice(), Any, 2, Err(OpenError::NoHeader)),
-        ("in the hidden slot", b"inner".as_slice(), HiddenOnly, 1, Ok(Hidden)),
-        ("in another slot", b"inner".as_slice(), StandardOnly, 1, Err(OpenError::NoHeader)),
-        ("in another slot", b"outer".as_slice(), HiddenOnly, 1, Err(OpenError::NoHeader)),
-        ("no backup", b"outer".as_slice(), AnyBackup, 2, Err(OpenError::NoHeader)),
-        ("in the second backup", b"inner".as_slice(), AnyBackup, 2, Ok(BackupHidden)),
-        ("in its backup", b"inner".as_slice(), HiddenBackup, 1, Ok(BackupHidden)),
+        (
+            "in the first slot",
+            b"outer".as_slice(),
+            Any,
+            1,
+            Ok(Standard),
+        ),
+        (
+            "the first read fails",
+            b"outer".as_slice(),
+            Any,
+            0,
+            Err(OpenError::ReadFault),
+        ),
+        (
+            "in the second slot",
+            b"inner".as_slice(),
+            Any,
+            2,
+            Ok(Hidden),
+        ),
+        (
+            "the second read fails",
+            b"inner".as_slice(),
+            Any,
+            1,
+            Err(OpenError::ReadFault),
+        ),
+        (
+            "in no slot",
+            b"other".as_slice(),
+            Any,
+            2,
+            Err(OpenError::NoHeader),
+        ),
+        (
+            "in the hidden slot",
+            b"inner".as_slice(),
+            HiddenOnly,
+            1,
+            Ok(Hidden),
+        ),
+        (
+            "in another slot",
+            b"inner".as_slice(),
+            StandardOnly,
+            1,
+            Err(OpenError::NoHeader),
+        ),
+        (
+            "in another slot",
+            b"outer".as_slice(),
+            HiddenOnly,
+            1,
+            Err(OpenError::NoHeader),
+        ),
+        (
+            "no backup",
+            b"outer".as_slice(),
+            AnyBackup,
+            2,
+            Err(OpenError::NoHeader),
+        ),
+        (
+            "in the second backup",
+            b"inner".as_slice(),
+            AnyBackup,
+            2,
+            Ok(BackupHidden),
+        ),
+        (
+            "in its backup",
+            b"inner".as_slice(),
+            HiddenBackup,
+            1,
+            Ok(BackupHidden),
+        ),
     ];
     for (name, text, kind, fails, want) in rows {
         let mut disk = store(&rt, &headers, fails)?;

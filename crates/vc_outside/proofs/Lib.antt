@@ -6,3 +6,5 @@ pub mod CrashIsReplayed
 pub mod ReadIsRecorded
 pub mod Steps
 pub mod Results
+-- what a crash may leave of calls that change nothing, one after another
+pub mod NothingMore

@@ -1,7 +1,7 @@
 -- The image with a hidden volume: a header in each of the two slots, one written after the other.
 --
 -- The slots are apart, so the second header leaves the first.
-use Rattle.std.proofs.Common.{◌≡◌, ◌<◌, ◌≤◌, ℕ, ◌+◌, ◌-◌, ◌*◌, ◌%◌, List, [], ◌∷◌, ◌++◌, length, take, drop, replicate, Option, Some, None, refl, sym, ap, ap₂, ◌∙◌, subst, arith, length-append}
+use Rattle.std.proofs.Common.{◌≡◌, ◌≤◌, ℕ, ◌+◌, ◌-◌, ◌%◌, List, length, take, drop, Option, Some, None, refl, sym, ap, ap₂, ◌∙◌, subst, arith, length-append}
 use Rattle.std.specs.Prelude.{IfSome, OnErr, OnOk, Result, Ok, Err}
 use Rattle.std.proofs.lemmas.List.{take_at}
 use Rattle.rand_chacha.specs.ChaCha.{ChaCha}
@@ -13,16 +13,16 @@ use Rattle.vc_layout.specs.Laws.Sectors.{at_least_a_unit, at_least_one, group_wh
 use Rattle.vc_layout.specs.declared.slots.Slot.{Slot}
 use Rattle.vc_layout.specs.declared.slots.Slot.TheVariants.{Standard, Hidden, BackupStandard, BackupHidden}
 use Rattle.vc_layout.specs.declared.kind.Kind.TheVariants.{HiddenOnly}
-use Rattle.vc_header.specs.Header.{body_of, Meets}
+use Rattle.vc_header.specs.Header.{Meets}
 use Rattle.vc_header.specs.declared.fields.Fields.{Fields}
 use Rattle.header_seal.specs.Sealed.{header_at, HeadersOpenAgain}
 use Rattle.volume_format.specs.Stream.{advanced, stream_bytes}
 use Rattle.volume_format.specs.Formatted.{body_under, key_bytes, material_of}
 use Rattle.volume_format.specs.Hidden.{formatted_hidden, header_under, hidden_fields, hidden_sealing_of, OnlyHiddenSlots}
-use Rattle.volume_format.specs.Opens.{HasBothHeaders, HasHeader}
+use Rattle.volume_format.specs.Opens.{HasBothHeaders}
 use Rattle.volume_format.specs.Laws.Made.{hidden_fields_from, IsHidden}
 use Rattle.volume_format.specs.declared.hidden.HiddenSpec.{HiddenSpec}
-use Rattle.volume_format.proofs.Draws.{advanced_twice, length-stream, stream_advanced}
+use Rattle.volume_format.proofs.Draws.{advanced_twice, stream_advanced}
 use Rattle.volume_format.proofs.Writes.{drop_from, length-written, part_before}
 use Rattle.volume_format.proofs.Images.{IsReadable, read_again}
 use Rattle.volume_format.proofs.Making.{both_headers, IsDecided}

@@ -130,7 +130,7 @@ filled_from old new h g size same filled =
 abbrev WritesBody : ℕ → FormatSpec → List ℕ → Fields → Option (List ℕ) → Option (List ℕ) → Type 0
 WritesBody at spec salt f old new = Both old new (λ b c. c ≡ written at (body_under (sealing_of spec) salt f) b)
 
--- step by step, where the store tells its bytes
+-- step by step, if the store's contents are known
 pub made : HeadersOpenAgain → IsDecided → (i₀ i₁ i₂ i₃ : Option (List ℕ)) (g : ChaCha) (spec : FormatSpec) (f : Fields)
     (fits : IsFormattable spec.size spec.sector) (s s' : List ℕ)
     → s ≡ stream_bytes g 0 64 → s' ≡ stream_bytes g (spec.size - 131072) 64

@@ -1,7 +1,7 @@
 //! The headers of new volumes.
 ghost use Rattle.std.specs.Prelude.{◌≡◌, ◌≤◌, ℕ, ◌+◌, ◌-◌, OnOk, IsErr};
 ghost use Rattle.vc_base.specs.Faults.{HasCause};
-ghost use Rattle.kdf_hmac.specs.Pbkdf2.{derived};
+ghost use Rattle.kdf_hmac.specs.Pbkdf2.{IsPim, derived};
 ghost use Rattle.vc_layout.specs.Layout.{place_of};
 ghost use Rattle.vc_outside.specs.Told.{Both, SameOutside, written};
 ghost use Rattle.header_seal.specs.Sealed.{OpensAgain, sealed_by};
@@ -57,7 +57,7 @@ pub(crate) fn write_body<D: Store>(
     salt: &[u8; SALT],
     fields: &Fields,
 ) -> Result<(), Failed>
-    requires pim { spec.now.pim ≤ 2147468 }
+    requires pim { IsPim spec.now.pim }
     requires long { 262656 ≤ spec.now.size }
     requires size { D.size disk.old ≡ spec.now.size }
     ensures written { OnOk result (Both (D.image disk.old) (D.image disk.new) (λ b c.
@@ -87,7 +87,7 @@ pub(crate) fn write_header<D: Store>(
     salt: &[u8; SALT],
     fields: &Fields,
 ) -> Result<(), Failed>
-    requires pim { spec.now.pim ≤ 2147468 }
+    requires pim { IsPim spec.now.pim }
     requires long { 262656 ≤ len }
     requires size { D.size disk.old ≡ len }
     ensures written { OnOk result (Both (D.image disk.old) (D.image disk.new) (λ b c.
@@ -118,7 +118,7 @@ fn sealed_body(
     salt: &[u8; SALT],
     fields: &Fields,
 ) -> [u8; BODY]
-    requires { pim ≤ 2147468 }
+    requires { IsPim pim }
     ensures body { result ≡ sealed_by prf algorithm password.now pim salt.now fields.now }
     ensures opens_again { OpensAgain algorithm (derived prf password.now pim salt.now) fields.now }
 {

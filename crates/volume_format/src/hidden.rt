@@ -1,5 +1,6 @@
 //! The hidden volume.
 ghost use Rattle.std.specs.Prelude.{◌≡◌, ◌≢◌, ◌≤◌, ◌+◌, ◌-◌, ◌↔◌, Err, OnOk, IsErr, IsErrOf, length};
+ghost use Rattle.kdf_hmac.specs.Pbkdf2.{IsPim};
 ghost use Rattle.vc_base.specs.Faults.{HasCause};
 ghost use Rattle.vc_layout.specs.Layout.{IsHideable};
 ghost use Rattle.vc_layout.specs.declared.slots.Slot.TheVariants.{Hidden, BackupHidden};
@@ -43,7 +44,7 @@ pub fn format_hidden<D: Store>(
     rng: &mut ChaCha20Rng,
     spec: &HiddenSpec,
 ) -> Result<(), FormatError>
-    requires { spec.now.pim ≤ 2147468 }
+    requires { IsPim spec.now.pim }
 
     // What is made, if the store's contents are known.
     ensures formatted { OnOk result (Both (D.image disk.old) (D.image disk.new) (λ b c.
@@ -88,7 +89,7 @@ fn make_hidden<D: Store>(
     len: u64,
     start: u64,
 ) -> Result<(), Failed>
-    requires pim { spec.now.pim ≤ 2147468 }
+    requires pim { IsPim spec.now.pim }
     requires hideable { IsHideable len spec.now.size spec.now.sector }
     requires start { start ≡ len - 131072 - spec.now.size }
     requires size { D.size disk.old ≡ len }
@@ -112,7 +113,7 @@ fn write_headers<D: Store>(
     len: u64,
     start: u64,
 ) -> Result<(), Failed>
-    requires pim { spec.now.pim ≤ 2147468 }
+    requires pim { IsPim spec.now.pim }
     requires hideable { IsHideable len spec.now.size spec.now.sector }
     requires start { start ≡ len - 131072 - spec.now.size }
     requires size { D.size disk.old ≡ len }

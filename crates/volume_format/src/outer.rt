@@ -1,5 +1,6 @@
 //! The outer volume.
 ghost use Rattle.std.specs.Prelude.{◌≡◌, ◌≤◌, ◌+◌, ◌↔◌, Err, OnOk, IsErr, IsErrOf};
+ghost use Rattle.kdf_hmac.specs.Pbkdf2.{IsPim};
 ghost use Rattle.vc_base.specs.Faults.{HasCause};
 ghost use Rattle.vc_layout.specs.Layout.{IsFormattable};
 ghost use Rattle.vc_layout.specs.declared.slots.Slot.TheVariants.{Standard, BackupStandard};
@@ -43,7 +44,7 @@ pub fn format_outer<D: Store>(
     rng: &mut ChaCha20Rng,
     spec: &FormatSpec,
 ) -> Result<(), FormatError>
-    requires { spec.now.pim ≤ 2147468 }
+    requires { IsPim spec.now.pim }
 
     // What is made, if the store's contents are known.
     ensures formatted { OnOk result (Both (D.image disk.old) (D.image disk.new) (λ _ b.
@@ -86,7 +87,7 @@ pub fn format_outer<D: Store>(
 
 // Writes the volume into a container of the asked size, and makes it last.
 fn make<D: Store>(disk: &mut D, rng: &mut ChaCha20Rng, spec: &FormatSpec) -> Result<(), Failed>
-    requires pim { spec.now.pim ≤ 2147468 }
+    requires pim { IsPim spec.now.pim }
     requires formattable { IsFormattable spec.now.size spec.now.sector }
     requires size { D.size disk.old ≡ spec.now.size }
     ensures written { OnOk result (Both (D.image disk.old) (D.image disk.new) (λ _ b.
@@ -108,7 +109,7 @@ fn write_volume<D: Store>(
     rng: &mut ChaCha20Rng,
     spec: &FormatSpec,
 ) -> Result<(), Failed>
-    requires pim { spec.now.pim ≤ 2147468 }
+    requires pim { IsPim spec.now.pim }
     requires formattable { IsFormattable spec.now.size spec.now.sector }
     requires size { D.size disk.old ≡ spec.now.size }
     ensures written { OnOk result (Both (D.image disk.old) (D.image disk.new) (λ _ b.

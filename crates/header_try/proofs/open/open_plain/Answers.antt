@@ -1,9 +1,8 @@
-use Rattle.std.proofs.Common.{◌≡◌, ℕ, List, sym, ◌∙◌}
+use Rattle.std.proofs.Common.{◌≡◌}
 use Rattle.vc_layout.specs.Kinds.{slots_of}
-use Rattle.header_seal.specs.declared.opened.Opened.{Opened}
 use Rattle.header_try.specs.Laws.Slots.{HasFieldsIn}
 use Rattle.header_try.proofs.First.{first_of_first, first_of_second, found_none, found_some, none_of_one, none_of_two, one_slot, some_slots, two_slots, with_some, contains_second}
-use Rattle.header_try.proofs.Crash.{nothing_more_twice}
+use Rattle.vc_outside.proofs.NothingMore.{nothing_more_twice}
 use Rattle.header_try.proofs.open.open_plain.Goals as goal
 
 pub returns-in-Some-clause-opened : goal.returns-in-Some-clause-opened

@@ -1,4 +1,4 @@
-use Rattle.std.proofs.Common.{◌≡◌, ℕ, List, Option, length, refl}
+use Rattle.std.proofs.Common.{◌≡◌, length, refl}
 use Rattle.std.specs.Prelude.{IfSome}
 use Rattle.header_seal.specs.Sealed.{header_at}
 use Rattle.header_try.proofs.First.{found_in, has_fields_in_all, header_read, length_read}

@@ -1,5 +1,4 @@
-use Rattle.std.proofs.Common.{◌≡◌, true, ℕ, List, sym, subst}
-use Rattle.std.specs.Prelude.{IsSome}
+use Rattle.std.proofs.Common.{ℕ, List, sym, subst}
 use Rattle.vc_header.specs.Header.{Valid}
 use Rattle.header_seal.specs.Sealed.{plain_under}
 use Rattle.header_try.proofs.Bodies.{if_some}

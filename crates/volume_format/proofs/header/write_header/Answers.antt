@@ -1,7 +1,4 @@
-use Rattle.std.proofs.Common.{◌≡◌, ◌≤◌, ℕ, ◌+◌, List, ◌++◌, length, sym, subst, ap, ◌∙◌, arith}
-use Rattle.std.specs.Prelude.{OnOk}
-use Rattle.vc_layout.specs.Layout.{place_of}
-use Rattle.volume_format.specs.Formatted.{body_under}
+use Rattle.std.proofs.Common.{ℕ, List, ◌++◌, length, ap, ◌∙◌, arith}
 use Rattle.volume_format.specs.Hidden.{header_under, hidden_sealing_of}
 use Rattle.volume_format.proofs.HiddenImages.{slot_inside, slot_outside, slot_written}
 use Rattle.volume_format.proofs.header.write_header.Goals as goal

@@ -1,9 +1,8 @@
-use Rattle.std.proofs.Common.{◌≡◌, ℕ, ◌+◌, ◌*◌, ◌%◌, List, length, refl, ap, ◌∙◌, arith}
+use Rattle.std.proofs.Common.{◌≡◌, ℕ, ◌+◌, refl, ap, ◌∙◌, arith}
 use Rattle.rand_chacha.specs.ChaCha.{ChaCha}
-use Rattle.volume_format.specs.Stream.{advanced, stream_bytes}
-use Rattle.volume_format.specs.Formatted.{key_bytes, material_of}
+use Rattle.volume_format.specs.Stream.{advanced}
+use Rattle.volume_format.specs.Formatted.{key_bytes}
 use Rattle.volume_format.specs.Hidden.{hidden_fields}
-use Rattle.volume_format.specs.Laws.Made.{hidden_fields_from}
 use Rattle.volume_format.proofs.Making.{cause_after}
 use Rattle.volume_format.proofs.HiddenImages.{both_slots, drawn_later, drawn_on, first_slot, made_hidden, whole_by, whole_keys}
 use Rattle.volume_format.proofs.hidden.write_headers.Goals as goal

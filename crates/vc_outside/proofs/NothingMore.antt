@@ -29,9 +29,9 @@ nothing_more_twice tells before middle now first second third could between can 
   nothing_else = λ modelled t c from left.
       elim (two.nothing_else modelled t c (omega (arith, one.later modelled, from)) left) [
         | inl earlier ↦ elim (one.nothing_else modelled t c from earlier) [
-            | inl past ↦ inl past
-            | inr middle_left ↦ inl (counts modelled t c from (was modelled c middle_left))
-          ]
+          | inl past ↦ inl past
+          | inr middle_left ↦ inl (counts modelled t c from (was modelled c middle_left))
+        ]
         | inr now_left ↦ inr now_left
       ];
   keeps = λ modelled t c from past.
