@@ -6,7 +6,7 @@
 PROGRAM defaults to crates/vcserve/out/vcserve. It is not built here: `rt run` in crates/vcserve
 builds it (README.md). Each row runs it once and compares the exit status, the
 standard output, the standard error and the container after it: the same bytes as before, or those
-that `format` has to make (check_format.py). A row that is wrong is printed; the last line counts
+that `format` and `hide` have to make (check_format.py, check_hidden.py). A row that is wrong is printed; the last line counts
 them. What can't be tried on this machine is printed too.
 
 The status is 1 if a row is wrong. Otherwise it is 77 if the package `cryptography` is missing,
@@ -20,6 +20,7 @@ import tempfile
 import time
 
 import check_format
+import check_hidden
 from independent_container import GROUP, SECTOR, make, pattern, read
 from program_rows import (LIMIT, LINES, PASSWORD, Rows, differences, differences_left, nobody,
                           words_of)
@@ -422,6 +423,7 @@ def main(words):
         written_headers(rows, folder)
         made_containers(rows, folder)
         check_format.check(rows, small, folder)
+        check_hidden.check(rows, folder)
         sparse(rows, folder)
         memory = "/dev/shm" if os.path.isdir("/dev/shm") else folder
         with tempfile.TemporaryDirectory(dir=memory) as folder_of_memory:

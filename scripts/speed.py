@@ -1,28 +1,28 @@
 #!/usr/bin/env python3
-"""How fast the built program is, beside yardsticks measured in the same run.
+"""How fast the built program is, against baselines measured in the same run.
 
   speed.py [PROGRAM [MEASURE ..]]
 
-PROGRAM is crates/vcserve/out/vcserve where no other is named; `rt run` in crates/vcserve builds it.
-Where no measure is named all are taken. Times are processor times where nothing else is said, so
-that other work on the machine counts little, and each is the best of several turns, program and
-yardstick in turn: on a shared machine a single one may be twice as long.
+PROGRAM defaults to crates/vcserve/out/vcserve, which `rt run` in crates/vcserve builds. If no
+measure is named, all are taken. Times are processor times unless something else is said, so that
+other work on the machine counts little, and each is the best of several runs, program and baseline
+in turn: on a shared machine a single one may take twice as long.
 
 opening      `cat FILE 0 0` with PIM 0, against hashlib's PBKDF2 of the same 192 bytes by 500,000
              iterations
 failing      `cat` with a wrong password and PIM 1, of the standard header: two derivations of
              16,000 iterations, and 16 bodies tried. With PIM 65 each is of 64,000 iterations more
              and all else is the same, so that a quarter of the difference is the time of the two
-             derivations alone, which is the first yardstick. The other is hashlib's two derivations
+             derivations alone, which is the first baseline. The other is hashlib's two derivations
 formatting   `format` of 256 MiB with PIM 1, in all against `dd` from /dev/zero with conv=fsync by
              the clock; and less `format` of the smallest container, which has the same
              derivations, against OpenSSL's ChaCha20
 deciphering  `cat` of 32 MiB with PIM 1, less `cat FILE 0 0`, for each cipher and the longest
              cascade, against libgcrypt's XTS over one stretch of 64 KiB and its bare cipher block
              by block; for AES also against OpenSSL's XTS over units of 512 bytes, with and without
-             the processor's AES instructions. For the cascade the yardsticks' times are added
+             the processor's AES instructions. For the cascade the baselines' times are added
 
-It judges nothing: the status is 0, but 77 where the package `cryptography` is missing. A yardstick
+It judges nothing: the status is 0, but 77 where the package `cryptography` is missing. A baseline
 that is missing is told and left out.
 """
 import ctypes
@@ -142,11 +142,11 @@ def formatting(program, folder):
     compare("openssl ChaCha20", rate, openssl_rate("chacha20", "16384"))
 
 
-def compare(name, rate, yardstick):
-    if not yardstick:
+def compare(name, rate, baseline):
+    if not baseline:
         print(f"  {name}: not measured")
     else:
-        print(f"  {name} {yardstick:.0f} MB/s, ratio {rate / yardstick:.2f}")
+        print(f"  {name} {baseline:.0f} MB/s, ratio {rate / baseline:.2f}")
 
 
 def gcrypt_time(cipher, mode, size):
@@ -193,8 +193,8 @@ def deciphering(program, folder):
         compare("libgcrypt block by block", rate, gcrypt_rate(name, GCRYPT_ECB))
         if name == "aes":
             for how, extra in [("with", {}), ("without", NO_AES)]:
-                yardstick = openssl_rate("aes-256-xts", "512", "-decrypt", extra=extra)
-                compare(f"openssl {how} AES instructions", rate, yardstick)
+                baseline = openssl_rate("aes-256-xts", "512", "-decrypt", extra=extra)
+                compare(f"openssl {how} AES instructions", rate, baseline)
 
 
 def openssl_rate(name, length, *more, extra={}):

@@ -1,16 +1,16 @@
 -- From the arguments to the promise that is kept.
-use Rattle.std.proofs.Common.{◌≡◌, inl, Bool, true, List, Option, Some, None, Result, Err, refl, sym, subst, arith}
+use Rattle.std.proofs.Common.{◌≡◌, inl, List, Option, Some, None, Result, Err, refl, sym, subst, arith}
 use Rattle.cmd_words.specs.Line.{Line, line, Text}
 use Rattle.cmd_words.specs.declared.command.Command.{Command}
 use Rattle.cmd_words.specs.declared.error.WordsError.{WordsError}
 use Rattle.cmd_words.specs.declared.error.WordsError.TheVariants as words
+use Rattle.vc_outside.proofs.NothingMore.{nothing_more}
 use Rattle.vc_app.specs.declared.status.Status.{Status}
 use Rattle.vc_app.specs.declared.status.Status.TheVariants.{Usage}
-use Rattle.vc_app.specs.Access.{if_built}
 use Rattle.vc_app.specs.Commands.{promise_by, promise_of, promise_of_line}
-use Rattle.vc_app.specs.Promise.{Kept, no_command, Promise, Seen}
+use Rattle.vc_app.specs.Promise.{anywhere, hidden_slots, Kept, no_command, nowhere, Promise, Reach, Seen, Unchanged, Within}
 use Rattle.vc_app.specs.Status.{words_status}
-use Rattle.vc_app.proofs.PromiseIsKept.{memory_kept, refusal_kept, Untouched}
+use Rattle.vc_app.proofs.PromiseIsKept.{memory_kept, refusal_kept, slots_same, Untouched}
 
 nothing_touched : (now : Seen) → Untouched now now
 nothing_touched now = record {
@@ -20,14 +20,22 @@ nothing_touched now = record {
   out_later = omega arith;
 }
 
+nothing_changed : (now : Seen) → Unchanged now now
+nothing_changed now = record {
+  same = record { image = refl; size = refl };
+  crash = nothing_more now.tells now.moment now.left_since now.may_leave;
+}
+
+nothing_reached : (r : Reach) (now : Seen) → Within r now now
+nothing_reached nowhere now = nothing_changed now
+nothing_reached hidden_slots now = record { outside = slots_same now.image now.image refl; size = refl }
+nothing_reached anywhere now = tt
+
 -- what is no command is Usage
 usage_kept : (now : Seen) → Kept no_command Usage now now
 usage_kept now =
-    refusal_kept no_command Usage now now tt tt (nothing_touched now)
+    refusal_kept no_command Usage now now tt tt (nothing_touched now) (nothing_changed now)
     (inl (record { refuses = λ h. h; comes = refl })) (λ t early. sym early.comes)
-
-pub built_kept : (b : Bool) (p : Promise) (s : Status) (old new : Seen) → b ≡ true → Kept p s old new → Kept (if_built b p) s old new
-built_kept b p s old new is kept = subst (λ (x : Bool). Kept (if_built x p) s old new) (sym is) kept
 
 pub line_kept : (arguments : List Text) (l : Line) (s : Status) (old new : Seen) → line arguments ≡ Some l
     → Kept (promise_of_line l) s old new → Kept (promise_of arguments) s old new
@@ -42,4 +50,5 @@ none_kept arguments now is = subst (λ (x : Option Line). Kept (promise_by x) Us
 pub unread_kept : (arguments : List Text) (r : Result Command WordsError) (e : WordsError) (now : Seen) → r ≡ Err e
     → (r ≡ Err words.Usage → line arguments ≡ None) → Kept (promise_of arguments) (words_status e) now now
 unread_kept arguments r words.Usage now is none = none_kept arguments now (none is)
-unread_kept arguments r words.NoMemory now is none = memory_kept (promise_of arguments) now now (nothing_touched now) refl refl
+unread_kept arguments r words.NoMemory now is none =
+    memory_kept (promise_of arguments) now now (nothing_touched now) (nothing_reached (promise_of arguments).reach now) refl refl

@@ -1,6 +1,6 @@
 -- Output that grows part by part.
 --
--- A front of what is to be written is all that any stop leaves: parts that were written whole, then a front of the
+-- Wherever it stops, a prefix of what is to be written was added: parts that were written whole, then a prefix of the
 -- part that was not.
 use Rattle.std.proofs.Common.{◌≡◌, ℕ, ◌+◌, ◌-◌, List, ◌++◌, length, take, drop, min, Option, Some, None, Result, Ok, Err, append_assoc, refl, sym, ap, ◌∙◌, subst, arith}
 use Rattle.std.specs.Prelude.{IfSome, OnOk}
@@ -30,7 +30,7 @@ front_of_none (Some a) xs = (0, sym (append-nil a))
 pub front_of_all : (a b : Option (List ℕ)) (xs : List ℕ) → Grows a b xs → GrowsByFront a b xs
 front_of_all a b xs f = (length xs, subst (λ (p : List ℕ). Grows a b p) (sym (take_all (length xs) xs (omega arith))) f)
 
--- a front of a list is a front of what goes on with it
+-- a prefix of a list is a prefix of what goes on with it
 front_more : (n : ℕ) (xs ys zs : List ℕ) → xs ++ take (min n (length ys)) ys ≡ take (length xs + min n (length ys)) (xs ++ (ys ++ zs))
 front_more n xs ys zs =
     let m : ℕ = min n (length ys) in
@@ -39,7 +39,7 @@ front_more n xs ys zs =
     ∙ ap (λ (p : List ℕ). xs ++ take m p) (drop_at xs (ys ++ zs) (length xs) refl)
     ∙ ap (λ (p : List ℕ). xs ++ p) (take-append-le m ys zs (omega arith)))
 
--- a part written whole, and a front of the next one
+-- a part written whole, and a prefix of the next one
 pub front_after : (a b c : Option (List ℕ)) (xs ys zs : List ℕ) → Grows a b xs → GrowsByFront b c ys → GrowsByFront a c (xs ++ (ys ++ zs))
 front_after a b c xs ys zs f g = (
   length xs + min g.0 (length ys),

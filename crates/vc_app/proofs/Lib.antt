@@ -6,5 +6,9 @@ pub mod Units
 pub mod Parts
 -- how a call keeps a promise, by the way in which it ends
 pub mod PromiseIsKept
+-- how a command that opens a volume keeps its promise
+pub mod Reading
 -- from the arguments to the promise that is kept
 pub mod CommandIsChosen
+-- sectors in data units and bytes
+pub mod Sectors

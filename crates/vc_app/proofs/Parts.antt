@@ -1,7 +1,7 @@
 -- The plain units that were written, part by part.
 --
 -- u is the first unit, `at` the next one and n the units of a part. What was written before `at` and what the part
--- adds is what was to be written before at + n; and where the part was not written whole, a front of all.
+-- adds is what was to be written before at + n. If the part was not written whole, it is a prefix of all.
 use Rattle.std.proofs.Common.{◌≡◌, ℕ, ◌+◌, ◌-◌, ◌≤◌, List, [], ◌++◌, Option, Some, None, sym, ap, ◌∙◌, subst, arith}
 use Rattle.std.specs.Prelude.{IfSome}
 use Rattle.std.proofs.lemmas.List.{append-nil}

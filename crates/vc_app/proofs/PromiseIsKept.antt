@@ -3,16 +3,17 @@
 -- A call is refused with nothing touched, it is out of memory with nothing touched, or its work on the container is
 -- whole. In the last case the counts of faults decide how it ended. And a call that kept its promise does what the
 -- container's bytes decide, if no count rises.
-use Rattle.std.proofs.Common.{◌≡◌, ◌≢◌, ◌≤◌, ◌<◌, ◌⊎◌, inl, inr, ℕ, ◌-◌, ◌^◌, false, List, Option, Some, None, Result, Ok, Err, refl, sym, ap, ◌∙◌, subst, arith}
+use Rattle.std.proofs.Common.{◌≡◌, ◌≢◌, ◌≤◌, ◌<◌, ◌⊎◌, inl, inr, ℕ, ◌-◌, ◌^◌, false, List, Option, Some, None, option_map, Result, Ok, Err, refl, sym, ap, ◌∙◌, subst, arith}
 use Rattle.std.specs.Prelude.{IfSome, IsErrAnd, IsErrOf, IsOk, OnOk}
 use Rattle.vc_base.specs.Faults.{HasCause, Rose}
 use Rattle.vc_outside.specs.Told.{Both, Grows, GrowsByFront}
+use Rattle.volume_format.specs.Hidden.{OnlyHiddenSlots}
 use Rattle.vc_app.specs.declared.counts.WorkError.{WorkError}
 use Rattle.vc_app.specs.declared.counts.WorkError.TheVariants as work
 use Rattle.vc_app.specs.declared.status.Status.{Status}
 use Rattle.vc_app.specs.declared.status.Status.TheVariants.{Done, Usage, NoHeader, NoHidden, Length, BadSize, DiskFault, OutFault, NoMemory, ClientCut, ClientMagic, ClientFault}
 use Rattle.vc_app.specs.Status.{ended, IsOfPlain, IsRefusal, work_status}
-use Rattle.vc_app.specs.Promise.{anywhere, goes, Goes, IsComplete, IsEarly, IsFront, IsLate, Kept, nowhere, Outcome, Plan, Promise, Reach, refused, Same, Seen, status_in, Whole, Within}
+use Rattle.vc_app.specs.Promise.{goes, Goes, IsComplete, IsEarly, IsFront, IsLate, Kept, Outcome, Plan, Promise, refused, Same, Seen, status_in, Whole, Within}
 use Rattle.vc_app.proofs.Growth.{front_of_none}
 
 -- nothing was touched, and no count fell
@@ -22,23 +23,28 @@ pub record Untouched (old new : Seen) : Type 0 where
   pub disk_later : old.disk_faults ≤ new.disk_faults
   pub out_later : old.out_faults ≤ new.out_faults
 
-front_of_nothing : (o : Option Outcome) (old new : Option (List ℕ)) → new ≡ old → IsFront o old new
+pub front_of_nothing : (o : Option Outcome) (old new : Option (List ℕ)) → new ≡ old → IsFront o old new
 front_of_nothing None old new same = tt
 front_of_nothing (Some (refused s)) old new same = same
 front_of_nothing (Some (goes plan)) old new same =
     subst (λ (x : Option (List ℕ)). GrowsByFront old x plan.output) (sym same) (front_of_none old plan.output)
 
-within_same : (r : Reach) (old new : Seen) → Same old new → Within r old new
-within_same nowhere old new same = same
-within_same anywhere old new same = tt
+-- the slots of the hidden headers hold what they held
+pub slots_same : (old new : Option (List ℕ)) → new ≡ old → Both old new OnlyHiddenSlots
+slots_same None new same = tt
+slots_same (Some b) new same = subst (λ (x : Option (List ℕ)). Both (Some b) x OnlyHiddenSlots) (sym same) (record {
+  between = b;
+  hidden = record { as_long = refl; before = refl; after = refl };
+  backup = record { as_long = refl; before = refl; after = refl };
+})
 
 -- a refusal is none of the other ends
 no_end : (s t : Status) → (IsRefusal t → ⊥) → IsRefusal s → s ≡ t → ⊥
 no_end s t other r e = other (subst IsRefusal e r)
 
 pub refusal_kept : (p : Promise) (s : Status) (old new : Seen) → IsRefusal s → IsOfPlain s → Untouched old new
-    → (IsEarly p s old ⊎ IsLate p s old) → ((t : Status) → IsEarly p t old → s ≡ t) → Kept p s old new
-refusal_kept p s old new r plain u cause only = record {
+    → Within p.reach old new → (IsEarly p s old ⊎ IsLate p s old) → ((t : Status) → IsEarly p t old → s ≡ t) → Kept p s old new
+refusal_kept p s old new r plain u within cause only = record {
   done = λ e. absurd (no_end s Done (λ x. x) r e);
   front = front_of_nothing (p.plan old.image) old.contents new.contents u.contents;
   quiet = λ _. u.contents;
@@ -46,7 +52,7 @@ refusal_kept p s old new r plain u cause only = record {
   whole = λ w. absurd (elim w [ inl e ↦ no_end s Done (λ x. x) r e | inr e ↦ no_end s OutFault (λ x. x) r e ]);
   same = λ _. u.same;
   no_memory = λ _. inl u.same;
-  within = within_same p.reach old new u.same;
+  within = within;
   early = λ t h. (inl (only t h), u.same, u.contents);
   refused = λ _. cause;
   possible = plain;
@@ -58,9 +64,9 @@ refusal_kept p s old new r plain u cause only = record {
 }
 
 -- out of memory, with nothing touched
-pub memory_kept : (p : Promise) (old new : Seen) → Untouched old new
+pub memory_kept : (p : Promise) (old new : Seen) → Untouched old new → Within p.reach old new
     → new.disk_faults ≡ old.disk_faults → new.out_faults ≡ old.out_faults → Kept p NoMemory old new
-memory_kept p old new u disk out = record {
+memory_kept p old new u within disk out = record {
   done = λ e. absurd (cc e);
   front = front_of_nothing (p.plan old.image) old.contents new.contents u.contents;
   quiet = λ _. u.contents;
@@ -68,7 +74,7 @@ memory_kept p old new u disk out = record {
   whole = λ w. absurd (elim w [ inl e ↦ cc e | inr e ↦ cc e ]);
   same = λ r. absurd r;
   no_memory = λ _. inl u.same;
-  within = within_same p.reach old new u.same;
+  within = within;
   early = λ t h. (inr refl, u.same, u.contents);
   refused = λ r. absurd r;
   possible = tt;
@@ -77,6 +83,29 @@ memory_kept p old new u disk out = record {
   disk_count = λ e. absurd (cc e);
   out_count = λ e. absurd (cc e);
   memory_counts = λ _. (disk, out);
+}
+
+-- the container failed, and nothing was written
+pub fault_kept : (p : Promise) (old new : Seen) → ((t : Status) → IsEarly p t old → ⊥) → Within p.reach old new
+    → new.contents ≡ old.contents → Rose old.disk_faults new.disk_faults
+    → old.disk_faults ≤ new.disk_faults → old.out_faults ≤ new.out_faults → Kept p DiskFault old new
+fault_kept p old new not_early within contents rose disk_later out_later = record {
+  done = λ e. absurd (cc e);
+  front = front_of_nothing (p.plan old.image) old.contents new.contents contents;
+  quiet = λ r. absurd r;
+  quiet_fault = λ _ _. contents;
+  whole = λ w. absurd (elim w [ inl e ↦ cc e | inr e ↦ cc e ]);
+  same = λ r. absurd r;
+  no_memory = λ e. absurd (cc e);
+  within = within;
+  early = λ t h. absurd (not_early t h);
+  refused = λ r. absurd r;
+  possible = tt;
+  disk_cause = record { later = disk_later; rose = λ _. rose };
+  out_cause = record { later = out_later; rose = λ e. absurd (cc e) };
+  disk_count = λ e. absurd (cc e);
+  out_count = λ e. absurd (cc e);
+  memory_counts = λ e. absurd (cc e);
 }
 
 -- the error that a `?` made
@@ -129,8 +158,33 @@ is_plain (Err work.DiskFault) = tt
 is_plain (Err work.OutFault) = tt
 is_plain (Err work.NoMemory) = tt
 
+pub on_ok_map : {X Y : Type 0} (r : Ended) → (X → Y) → OnOk r X → OnOk r Y
+on_ok_map (Ok done) f h = f h
+on_ok_map (Err error) f h = h
+
+-- ---- a plan that is made of the container's bytes
+
+abbrev pub by_bytes : (List ℕ → Plan) → Option (List ℕ) → Option Outcome
+by_bytes f image = option_map (λ b. goes (f b)) image
+
+pub image_goes : (f : List ℕ → Plan) (old new : Option (List ℕ)) → Both old new (λ b c. c ≡ (f b).image)
+    → Goes (by_bytes f old) (λ plan. Both old new (λ before after. after ≡ plan.image))
+image_goes f None new h = tt
+image_goes f (Some b) None h = h
+image_goes f (Some b) (Some c) h = h
+
+pub output_goes : (f : List ℕ → Plan) (image : Option (List ℕ)) (P : List ℕ → Type 0) → ((b : List ℕ) → P (f b).output)
+    → Goes (by_bytes f image) (λ plan. P plan.output)
+output_goes f None P h = tt
+output_goes f (Some b) P h = h b
+
+pub front_goes : (f : List ℕ → Plan) (image old new : Option (List ℕ)) → ((b : List ℕ) → GrowsByFront old new (f b).output)
+    → IsFront (by_bytes f image) old new
+front_goes f None old new h = tt
+front_goes f (Some b) old new h = h b
+
 -- a count that isn't what it was rose
-rose_of : (before now : ℕ) → before ≤ now → now ≢ before → Rose before now
+pub rose_of : (before now : ℕ) → before ≤ now → now ≢ before → Rose before now
 rose_of before now later other = omega (arith, later, other)
 
 -- what `settle` says of the end r of work that ended so, by the counts d and o when the call began

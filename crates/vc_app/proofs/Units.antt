@@ -36,7 +36,7 @@ units_read dec b xs u n e long =
     ∙ joined_same (λ j. dec (u + j) (piece 512 j xs)) (λ j. dec (u + j) (piece 512 (u + j) b)) (n / 512)
     (λ j below. ap (dec (u + j)) (piece_read b xs u n j e (omega arith)))
 
--- the same, where the image is told: what was made of what was read
+-- the same if the contents are known: what was made of what was read
 pub told_units_read : (image : Option (List ℕ)) (dec : ℕ → List ℕ → List ℕ) (xs made : List ℕ) (u n : ℕ)
     → IfSome image (λ b. xs ≡ slice_range b (u * 512) (u * 512 + n)) → length xs ≡ n
     → made ≡ in_pieces 512 (λ i x. dec (u + i) x) xs

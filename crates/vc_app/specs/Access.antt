@@ -3,16 +3,14 @@
 -- opened access image         the header that is opened, or none
 -- reading access late s f     the promise of a command that opens a volume and changes nothing: what comes of
 --                             the container's bytes is f of the opened header and of the bytes
-use Rattle.std.specs.Prelude.{◌≡◌, ℕ, Bool, true, false, List, ◌∷◌, Option, Some, None, option_map}
+use Rattle.std.specs.Prelude.{◌≡◌, ℕ, Bool, List, ◌∷◌, Option, Some, None, option_map}
 use Rattle.vc_layout.specs.Layout.{IsContainerLength}
-use Rattle.vc_layout.specs.declared.kind.Kind.{Kind}
-use Rattle.vc_layout.specs.declared.kind.Kind.TheVariants.{Any, StandardOnly}
 use Rattle.header_seal.specs.declared.opened.Opened.{Opened}
 use Rattle.header_seal.specs.Candidates.{Candidate, fields_in, first}
 use Rattle.vc_app.specs.declared.access.Access.{Access}
 use Rattle.vc_app.specs.declared.status.Status.{Status}
 use Rattle.vc_app.specs.declared.status.Status.TheVariants.{Length, NoHeader}
-use Rattle.vc_app.specs.Promise.{Outcome, Promise, no_command, nowhere, refused}
+use Rattle.vc_app.specs.Promise.{Outcome, Promise, nowhere, refused}
 
 -- the header of a candidate
 abbrev pub header_of : Access → List ℕ → Candidate → Opened
@@ -40,13 +38,3 @@ reading access late streams f = record {
   length_left = λ len. len;
   streams = streams;
 }
-
--- So far the headers of the standard slot alone are opened.
-abbrev pub is_built : Kind → Bool
-is_built Any = true
-is_built StandardOnly = true
-is_built _ = false
-
-abbrev pub if_built : Bool → Promise → Promise
-if_built true promise = promise
-if_built false promise = no_command

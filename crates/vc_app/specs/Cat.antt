@@ -14,11 +14,12 @@ keys_of o = record { algorithm = o.algorithm; material = o.fields.material }
 
 -- the asked sectors of the opened volume
 abbrev pub asked : Cat → Opened → List ℕ → List ℕ
-asked command o image = plain_sectors (keys_of o) o.fields.start image command.first command.count
+asked command o image =
+    plain_sectors (keys_of o) o.fields.start (o.fields.sector / 512) image command.first command.count
 
 -- the volume has the asked sectors
 abbrev pub is_inside : Cat → Opened → Bool
-is_inside command o = nat_le (command.first + command.count) (o.fields.volume_size / 512)
+is_inside command o = nat_le (command.first + command.count) (o.fields.volume_size / o.fields.sector)
 
 abbrev pub outcome : Cat → Opened → List ℕ → Outcome
 outcome command o image =

@@ -3,21 +3,24 @@
 --
 -- promise_of arguments        the promise of a command line
 use Rattle.std.specs.Prelude.{List, Option, Some, None}
-use Rattle.cmd_words.specs.Line.{Line, Text, line, cat, format, info}
-use Rattle.vc_app.specs.Access.{if_built, is_built}
+use Rattle.cmd_words.specs.Line.{Line, Text, line, cat, format, hide, info}
 use Rattle.vc_app.specs.Cat as cat_command
 use Rattle.vc_app.specs.Format as format_command
+use Rattle.vc_app.specs.Hide as hide_command
 use Rattle.vc_app.specs.Info as info_command
 use Rattle.vc_app.specs.Promise.{Promise, no_command}
 
 abbrev pub promise_of_line : Line → Promise
-promise_of_line (format path size password random pim prf algorithm) =
-    format_command.promise (record { password = password; pim = pim; prf = prf; algorithm = algorithm; size = size }) random
+promise_of_line (format path size password random pim prf algorithm sector) =
+    format_command.promise
+    (record { password = password; pim = pim; prf = prf; algorithm = algorithm; size = size; sector = sector }) random
+promise_of_line (hide path size password random pim prf algorithm sector) =
+    hide_command.promise
+    (record { password = password; pim = pim; prf = prf; algorithm = algorithm; size = size; sector = sector }) random
 promise_of_line (info path password pim kind) =
-    if_built (is_built kind) (info_command.promise (record { password = password; pim = pim; kind = kind }))
+    info_command.promise (record { password = password; pim = pim; kind = kind })
 promise_of_line (cat path first count password pim kind) =
-    if_built (is_built kind)
-    (cat_command.promise (record { first = first; count = count; access = record { password = password; pim = pim; kind = kind } }))
+    cat_command.promise (record { first = first; count = count; access = record { password = password; pim = pim; kind = kind } })
 promise_of_line _ = no_command
 
 abbrev pub promise_by : Option Line → Promise

@@ -16,7 +16,7 @@ plan_of spec random = record { image = formatted (of_seed random) spec; output =
 -- What was in the container decides nothing.
 abbrev pub promise : FormatSpec → List ℕ → Promise
 promise spec random = record {
-  admits = λ len. IsFormattable spec.size;
+  admits = λ len. IsFormattable spec.size spec.sector;
   early = λ len s. s ≡ BadSize;
   late = [];
   plan = λ image. Some (goes (plan_of spec random));

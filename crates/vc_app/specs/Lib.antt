@@ -10,5 +10,7 @@ pub mod Cat
 pub mod Info
 -- what `format` promises
 pub mod Format
+-- what `hide` promises
+pub mod Hide
 -- the commands, each with its promise
 pub mod Commands

@@ -16,10 +16,11 @@
 -- IsComplete ..        without a fault such a call does what the container's bytes decide
 use Rattle.std.specs.Prelude.{◌≡◌, ◌⊎◌, ◌<◌, ◌-◌, ◌^◌, ℕ, ⊤, Bool, false, List, [], Option, Some, None, IfSome, Contains}
 use Rattle.vc_base.specs.Faults.{HasCause}
-use Rattle.vc_outside.specs.Crash.{IsLasting}
+use Rattle.vc_outside.specs.Crash.{IsLasting, Outcomes, Stays}
 use Rattle.vc_outside.specs.Told.{Both, Grows, GrowsByFront}
 use Rattle.vc_outside.specs.declared.store.Store as store
 use Rattle.vc_outside.specs.declared.sink.Sink as sink
+use Rattle.volume_format.specs.Hidden.{OnlyHiddenSlots}
 use Rattle.vc_app.specs.declared.status.Status.{Status}
 use Rattle.vc_app.specs.declared.status.Status.TheVariants.{Done, Usage, DiskFault, OutFault, NoMemory}
 use Rattle.vc_app.specs.Status.{IsAfterWork, IsOfPlain, IsRefusal}
@@ -36,6 +37,8 @@ pub data Outcome : Type 0 where
 
 pub data Reach : Type 0 where
   nowhere : Reach
+  -- the slots of the hidden header and of its backup
+  hidden_slots : Reach
   anywhere : Reach
 
 pub record Promise : Type 1 where
@@ -71,9 +74,11 @@ pub record Seen : Type 1 where
   pub image : Option (List ℕ)
   pub size : ℕ
   pub disk_faults : ℕ
-  -- what a crash may leave, if the container models it
+  -- what a crash may leave at this moment, and since an earlier one, if the container models it
   pub tells : Bool
   pub may_leave : List ℕ → Type 0
+  pub moment : ℕ
+  pub left_since : ℕ → List ℕ → Type 0
   pub contents : Option (List ℕ)
   pub out_faults : ℕ
 
@@ -84,6 +89,8 @@ seen d o disk out = record {
   disk_faults = d.faults disk;
   tells = d.tells;
   may_leave = d.may_leave disk;
+  moment = d.moment disk;
+  left_since = d.left_since disk;
   contents = o.contents out;
   out_faults = o.faults out;
 }
@@ -93,13 +100,29 @@ pub record Same (old new : Seen) : Type 0 where
   pub image : new.image ≡ old.image
   pub size : new.size ≡ old.size
 
+-- a crash leaves nothing more than before
+abbrev pub LeavesNoMore : Seen → Seen → Type 0
+LeavesNoMore old new =
+    Outcomes old.tells old.moment new.moment old.left_since new.left_since old.may_leave new.may_leave Stays
+
+pub record Unchanged (old new : Seen) : Type 0 where
+  pub same : Same old new
+  pub crash : LeavesNoMore old new
+
+-- only bytes of the two slots may differ
+pub record InHiddenSlots (old new : Seen) : Type 0 where
+  pub outside : Both old.image new.image OnlyHiddenSlots
+  pub size : new.size ≡ old.size
+
 abbrev pub Within : Reach → Seen → Seen → Type 0
-Within nowhere old new = Same old new
+Within nowhere old new = Unchanged old new
+Within hidden_slots old new = InHiddenSlots old new
 Within anywhere old new = ⊤
 
 -- what the command left lasts, if it may change the container
 abbrev pub Lasts : Reach → Seen → Type 0
 Lasts nowhere new = ⊤
+Lasts hidden_slots new = IsLasting new.tells new.image new.may_leave
 Lasts anywhere new = IsLasting new.tells new.image new.may_leave
 
 -- ---- what a promise means

@@ -18,6 +18,8 @@ use Rattle.vc_app.specs.declared.commands.info.InfoError.{InfoError}
 use Rattle.vc_app.specs.declared.commands.info.InfoError.TheVariants as info
 use Rattle.vc_app.specs.declared.commands.format.FormatError.{FormatError}
 use Rattle.vc_app.specs.declared.commands.format.FormatError.TheVariants as format
+use Rattle.vc_app.specs.declared.commands.hide.HideError.{HideError}
+use Rattle.vc_app.specs.declared.commands.hide.HideError.TheVariants as hide
 use Rattle.vc_app.specs.declared.status.Status.{Status}
 use Rattle.vc_app.specs.declared.status.Status.TheVariants.{Done, Usage, NoHeader, NoHidden, Length, BadSize, DiskFault, OutFault, NoMemory, ClientCut, ClientMagic, ClientFault}
 
@@ -81,6 +83,10 @@ info_status (info.Work error) = work_status error
 abbrev pub format_status : FormatError → Status
 format_status format.BadSize = BadSize
 format_status (format.Work error) = work_status error
+
+abbrev pub hide_status : HideError → Status
+hide_status hide.BadSize = BadSize
+hide_status (hide.Work error) = work_status error
 
 abbrev pub ended : {E : Type 0} → (E → Status) → Result (Unit {0}) E → Status
 ended status (Ok done) = Done

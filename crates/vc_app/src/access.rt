@@ -4,7 +4,8 @@ ghost use Rattle.vc_base.specs.Faults.{HasCause};
 ghost use Rattle.kdf_hmac.specs.Pbkdf2.{IsPim};
 ghost use Rattle.vc_layout.specs.Layout.{IsContainerLength};
 ghost use Rattle.vc_header.specs.Header.{Meets};
-ghost use Rattle.vc_app.specs.Access.{is_built, opened};
+ghost use Rattle.vc_outside.specs.Crash.{Outcomes, Stays};
+ghost use Rattle.vc_app.specs.Access.{opened};
 
 use header_try::{Kind, OpenError, Opened, open_plain};
 use kdf_hmac::Password;
@@ -19,13 +20,6 @@ pub struct Access {
 }
 
 impl Access {
-    /// Whether headers of the kind are opened. So far only the standard slot's are.
-    pub fn is_built(&self) -> bool
-        ensures { result ≡ is_built self.now.kind }
-    {
-        matches!(self.kind, Kind::Any | Kind::StandardOnly)
-    }
-
     /// Opens the header.
     pub fn open<D: Store>(&self, disk: &mut D) -> Result<Opened, OpenError>
         requires { IsPim self.now.pim }
@@ -42,6 +36,8 @@ impl Access {
         ensures meets { IfOk result (λ o. Meets o.fields o.slot (D.size disk.old)) }
         ensures image { D.image disk.new ≡ D.image disk.old }
         ensures size { D.size disk.new ≡ D.size disk.old }
+        ensures crash { Outcomes D.tells (D.moment disk.old) (D.moment disk.new) (D.left_since disk.old)
+            (D.left_since disk.new) (D.may_leave disk.old) (D.may_leave disk.new) Stays }
     {
         open_plain(disk, &self.password, self.pim, self.kind)
     }

@@ -2,4 +2,5 @@
 
 pub mod cat;
 pub mod format;
+pub mod hide;
 pub mod info;

@@ -8,16 +8,17 @@ ghost use Rattle.vc_app.specs.Promise.{IsComplete, Kept, seen};
 use crate::access::Access;
 use crate::commands::cat::{Cat, run_cat};
 use crate::commands::format::run_format;
+use crate::commands::hide::run_hide;
 use crate::commands::info::run_info;
 use crate::status::Status;
 use cmd_words::{Command, read_words};
 use std::alloc::Global;
 use std::thread::Threads;
 use vc_outside::{Sink, Store};
-use volume_format::FormatSpec;
+use volume_format::{FormatSpec, HiddenSpec};
 
 /// Carries out the command that the arguments are, over a container and an output, and gives both back. So far
-/// the commands are `format`, `info` and `cat`, and `info` and `cat` open the standard header alone.
+/// the commands are `format`, `hide`, `info` and `cat`.
 ///
 /// The call keeps the promise of the command. Arguments that are no command of this call have a promise too:
 /// Usage, with nothing touched.
@@ -64,6 +65,7 @@ fn carry_out<D: Store, O: Sink>(
             pim,
             prf,
             algorithm,
+            sector,
         } => {
             let spec = FormatSpec {
                 password,
@@ -71,8 +73,32 @@ fn carry_out<D: Store, O: Sink>(
                 prf,
                 algorithm,
                 size,
+                sector,
             };
             match run_format(disk, out, &spec, random) {
+                Ok(()) => Status::Done,
+                Err(error) => Status::from(error),
+            }
+        }
+        Command::Hide {
+            path: _path,
+            size,
+            password,
+            random,
+            pim,
+            prf,
+            algorithm,
+            sector,
+        } => {
+            let spec = HiddenSpec {
+                password,
+                pim,
+                prf,
+                algorithm,
+                size,
+                sector,
+            };
+            match run_hide(disk, out, &spec, random) {
                 Ok(()) => Status::Done,
                 Err(error) => Status::from(error),
             }
@@ -88,9 +114,6 @@ fn carry_out<D: Store, O: Sink>(
                 pim,
                 kind,
             };
-            if !access.is_built() {
-                return Status::Usage;
-            }
             match run_info(alloc, disk, out, &access) {
                 Ok(()) => Status::Done,
                 Err(error) => Status::from(error),
@@ -109,9 +132,6 @@ fn carry_out<D: Store, O: Sink>(
                 pim,
                 kind,
             };
-            if !access.is_built() {
-                return Status::Usage;
-            }
             let command = Cat {
                 first,
                 count,

@@ -1,9 +1,10 @@
 //! How a call ended: one status for each cause, made from each command's own error.
 ghost use Rattle.std.specs.Prelude.{◌≡◌};
-ghost use Rattle.vc_app.specs.Status.{cat_status, code_of, format_status, info_status, open_status, words_status, work_status};
+ghost use Rattle.vc_app.specs.Status.{cat_status, code_of, format_status, hide_status, info_status, open_status, words_status, work_status};
 
 use crate::commands::cat::CatError;
 use crate::commands::format::FormatError;
+use crate::commands::hide::HideError;
 use crate::commands::info::InfoError;
 use crate::counts::WorkError;
 use cmd_words::WordsError;
@@ -126,6 +127,17 @@ impl From<FormatError> for Status {
         match error {
             FormatError::BadSize => Status::BadSize,
             FormatError::Work(error) => Status::from(error),
+        }
+    }
+}
+
+impl From<HideError> for Status {
+    ghost from_gives = { λ e s. s ≡ hide_status e };
+
+    fn from(error: HideError) -> Status {
+        match error {
+            HideError::BadSize => Status::BadSize,
+            HideError::Work(error) => Status::from(error),
         }
     }
 }

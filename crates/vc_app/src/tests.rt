@@ -1,12 +1,13 @@
 //! The commands over stores and sinks in memory, also over those that fail.
 //!
-//! A command line is written with `|` between its arguments, and `@` for the random key 00 to 1f. A table is a text
+//! A command line is written with `|` between its arguments, `@` for the random key 00 to 1f and `#` for 20 to 3f. A table is a text
 //! with a row a line and `;` between its columns: the exit status, numbers, and what is done.
 ghost use Rattle.std.specs.Prelude.{◌≡◌};
 
 mod cat;
 mod faults;
 mod format;
+mod hide;
 mod misses;
 
 use crate::{Status, run_plain};
@@ -15,6 +16,8 @@ use std::thread::Threads;
 use vc_outside::{Sink, Store, SureSink};
 
 static KEY: &str = "000102030405060708090a0b0c0d0e0f101112131415161718191a1b1c1d1e1f";
+
+static HIDDEN_KEY: &str = "202122232425262728292a2b2c2d2e2f303132333435363738393a3b3c3d3e3f";
 
 // Makes the smallest container, whose volume has one sector.
 static FORMAT: &str = "format|c1.vc|--size|262656|--password|correct horse|--random|@|--pim|1";
@@ -30,7 +33,11 @@ static SMALL_TEXT: &str =
 fn arguments_of(alloc: Global, line: &str) -> Result<Vec<String>, AllocError> {
     let mut arguments = Vec::new(alloc);
     for argument in line.split('|') {
-        let argument = if argument == "@" { KEY } else { argument };
+        let argument = match argument {
+            "@" => KEY,
+            "#" => HIDDEN_KEY,
+            _ => argument,
+        };
         arguments.push(String::from_str(alloc, argument)?)?;
     }
     Ok(arguments)

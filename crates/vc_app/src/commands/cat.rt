@@ -3,11 +3,12 @@ ghost use Rattle.std.specs.Prelude.{◌≡◌, ◌≤◌, ◌+◌, ◌*◌, ◌/
 ghost use Rattle.vc_base.specs.Faults.{HasCause};
 ghost use Rattle.cascade_set.specs.Volume.{plain_units};
 ghost use Rattle.kdf_hmac.specs.Pbkdf2.{IsPim};
+ghost use Rattle.vc_layout.specs.Layout.{IsSectorSize};
 ghost use Rattle.vc_header.specs.Header.{Meets};
 ghost use Rattle.vc_outside.specs.Told.{Grows, GrowsByFront};
 ghost use Rattle.vc_app.specs.Cat.{asked, promise};
 ghost use Rattle.vc_app.specs.declared.commands.cat.CatError.TheVariants.{Open, Work};
-ghost use Rattle.vc_app.specs.Promise.{Kept, seen};
+ghost use Rattle.vc_app.specs.Promise.{Kept, LeavesNoMore, seen};
 ghost use Rattle.vc_app.specs.Status.{cat_status, ended};
 
 use crate::access::Access;
@@ -16,11 +17,11 @@ use crate::output::write_all;
 use cascade_set::{Keyed, Keys};
 use cipher_base::UnitCipher;
 use header_try::{OpenError, Opened};
-use vc_layout::SECTOR;
+use vc_layout::DATA_UNIT;
 use vc_outside::{Sink, Store};
 
-/// The sectors that the buffer holds.
-const BUFFER_SECTORS: u64 = 128;
+/// The data units that the buffer holds.
+const BUFFER_UNITS: u64 = 128;
 
 /// The buffer's length in bytes.
 const BUFFER: usize = 65_536;
@@ -68,7 +69,7 @@ pub fn run_cat<D: Store, O: Sink>(disk: &mut D, out: &mut O, command: &Cat) -> R
 {
     let counts = Counts::new(disk, out);
     let opened = command.access.open(disk)?;
-    let sectors = opened.fields.volume_size / SECTOR;
+    let sectors = opened.fields.volume_size / u64::from(opened.fields.sector);
     if command.first > sectors || command.count > sectors - command.first {
         return Err(CatError::BadSize);
     }
@@ -86,7 +87,7 @@ fn write_sectors<D: Store, O: Sink>(
 ) -> Result<(), WorkError>
     requires meets { Meets opened.now.fields opened.now.slot (D.size disk.old) }
     requires small { D.size disk.old ≤ 2 ^ 60 }
-    requires within { command.now.first + command.now.count ≤ opened.now.fields.volume_size / 512 }
+    requires within { command.now.first + command.now.count ≤ opened.now.fields.volume_size / opened.now.fields.sector }
     ensures done { OnOk result (IfSome (D.image disk.old) (λ b.
         Grows (O.contents out.old) (O.contents out.new) (asked command.now opened.now b))) }
     ensures front { IfSome (D.image disk.old) (λ b.
@@ -95,13 +96,26 @@ fn write_sectors<D: Store, O: Sink>(
     ensures out_cause { HasCause (O.faults out.old) (O.faults out.new) (IsErrOf result WorkError.OutFault) }
     ensures image { D.image disk.new ≡ D.image disk.old }
     ensures size { D.size disk.new ≡ D.size disk.old }
+    ensures crash { LeavesNoMore (seen ⟦<D as Store>⟧ ⟦<O as Sink>⟧ disk.old out.old)
+        (seen ⟦<D as Store>⟧ ⟦<O as Sink>⟧ disk.new out.new) }
 {
     let keyed = Keyed::new(&Keys {
         algorithm: opened.algorithm,
         material: opened.fields.material,
     });
-    let unit = opened.fields.start / SECTOR + command.first;
-    write_units(disk, out, &keyed, unit, command.count)
+    let unit = opened.fields.start / DATA_UNIT + units_of(command.first, opened.fields.sector);
+    let count = units_of(command.count, opened.fields.sector);
+    write_units(disk, out, &keyed, unit, count)
+}
+
+// The data units that so many sectors have.
+fn units_of(sectors: u64, sector: u32) -> u64
+    requires size { IsSectorSize sector }
+    requires small { sectors * sector ≤ 2 ^ 60 }
+    ensures units { result ≡ sector / 512 * sectors }
+    ensures bytes { result * 512 ≡ sectors * sector }
+{
+    u64::from(sector) / DATA_UNIT * sectors
 }
 
 // Writes `count` deciphered data units, of which the first has the number `unit`.
@@ -122,12 +136,14 @@ fn write_units<D: Store, O: Sink, C: UnitCipher>(
     ensures out_cause { HasCause (O.faults out.old) (O.faults out.new) (IsErrOf result WorkError.OutFault) }
     ensures image { D.image disk.new ≡ D.image disk.old }
     ensures size { D.size disk.new ≡ D.size disk.old }
+    ensures crash { LeavesNoMore (seen ⟦<D as Store>⟧ ⟦<O as Sink>⟧ disk.old out.old)
+        (seen ⟦<D as Store>⟧ ⟦<O as Sink>⟧ disk.new out.new) }
 {
     let mut buffer = [0u8; BUFFER];
     let mut at = unit;
     let mut left = count;
     'parts: while left > 0 {
-        let part = left.min(BUFFER_SECTORS);
+        let part = left.min(BUFFER_UNITS);
         let bytes = &mut buffer[..part as usize * 512];
         write_part(disk, out, cipher, at, bytes)?;
         at += part;
@@ -157,8 +173,10 @@ fn write_part<D: Store, O: Sink, C: UnitCipher>(
     ensures out_cause { HasCause (O.faults out.old) (O.faults out.new) (IsErrOf result WorkError.OutFault) }
     ensures image { D.image disk.new ≡ D.image disk.old }
     ensures size { D.size disk.new ≡ D.size disk.old }
+    ensures crash { LeavesNoMore (seen ⟦<D as Store>⟧ ⟦<O as Sink>⟧ disk.old out.old)
+        (seen ⟦<D as Store>⟧ ⟦<O as Sink>⟧ disk.new out.new) }
 {
-    let Ok(()) = disk.read_at(unit * SECTOR, bytes) else {
+    let Ok(()) = disk.read_at(unit * DATA_UNIT, bytes) else {
         return Err(WorkError::DiskFault);
     };
     cipher.decipher_units(unit, bytes);

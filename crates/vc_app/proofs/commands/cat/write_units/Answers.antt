@@ -1,5 +1,6 @@
 use Rattle.std.proofs.Common.{ℕ, ◌/◌, ◌*◌, ◌≡◌, ◌≤◌, List, arith, refl, length, take, length-take, ◌∙◌}
 use Rattle.cascade_set.specs.Volume.{plain_units}
+use Rattle.vc_outside.proofs.NothingMore.{nothing_more, nothing_more_twice}
 use Rattle.vc_app.proofs.Parts.{written_none, written_more, stopped, written_all, front_told}
 use Rattle.vc_app.proofs.commands.cat.write_units.Goals as goal
 
@@ -14,6 +15,7 @@ parts-init g c = record {
   written = written_none (g.D.Store.image c.args.disk.now) (g.O.Sink.contents c.args.out.now) (g.C.UnitCipher.deciphered c.args.cipher.now) c.args.unit;
   image = refl;
   size = refl;
+  crash = nothing_more _ _ _ _;
   disk_later = omega arith;
   out_later = omega arith;
 }
@@ -30,6 +32,9 @@ parts-preserved g c = record {
       c.parts.invariant.written c.in_ok-write_part.ensures.done;
   image = c.write_part.ensures.image ∙ c.parts.invariant.image;
   size = c.write_part.ensures.size ∙ c.parts.invariant.size;
+  crash = nothing_more_twice _ _ _ _ _ _ _ _ _ _
+      (λ modelled t b from left. g.met.D.Store.counts_now modelled c.args.disk.now t b from left)
+      c.parts.invariant.crash c.write_part.ensures.crash;
   disk_later = omega (arith, c.write_part.ensures.disk_cause.later, c.parts.invariant.disk_later);
   out_later = omega (arith, c.write_part.ensures.out_cause.later, c.parts.invariant.out_later);
 }
@@ -56,3 +61,9 @@ returns-clause-front g c =
     (written_all (g.D.Store.image c.args.disk.now) (g.O.Sink.contents c.args.out.now) (g.O.Sink.contents c.parts.out)
     (g.C.UnitCipher.deciphered c.args.cipher.now) c.args.unit c.parts.at c.args.count
     (omega (arith, c.parts.invariant.end)) c.parts.invariant.written)
+
+pub returns-in_err-write_part-clause-crash : goal.returns-in_err-write_part-clause-crash
+returns-in_err-write_part-clause-crash g c =
+    nothing_more_twice _ _ _ _ _ _ _ _ _ _
+    (λ modelled t b from left. g.met.D.Store.counts_now modelled c.args.disk.now t b from left)
+    c.parts.invariant.crash c.write_part.ensures.crash

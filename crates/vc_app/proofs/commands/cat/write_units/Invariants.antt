@@ -3,6 +3,7 @@ use Rattle.std.proofs.Common.{◌≡◌, ◌≤◌, ◌+◌, ◌-◌}
 use Rattle.std.specs.Prelude.{IfSome}
 use Rattle.vc_outside.specs.Told.{Grows}
 use Rattle.cascade_set.specs.Volume.{plain_units}
+use Rattle.vc_app.specs.Promise.{LeavesNoMore, seen}
 use Rattle.vc_app.proofs.commands.cat.write_units.Given as goal
 
 abbrev pub invariant-parts : goal.invariant-parts
@@ -14,6 +15,7 @@ invariant-parts g l = record {
       (plain_units (g.C.UnitCipher.deciphered l.cipher) b l.fn.unit (l.at - l.fn.unit)));
   image : g.D.Store.image l.disk ≡ g.D.Store.image l.fn.disk;
   size : g.D.Store.size l.disk ≡ g.D.Store.size l.fn.disk;
+  crash : LeavesNoMore (seen g.D.Store g.O.Sink l.fn.disk l.fn.out) (seen g.D.Store g.O.Sink l.disk l.out);
   disk_later : g.D.Store.faults l.fn.disk ≤ g.D.Store.faults l.disk;
   out_later : g.O.Sink.faults l.fn.out ≤ g.O.Sink.faults l.out;
 }

@@ -1,0 +1,24 @@
+-- What `hide` promises: the headers of a new hidden volume from the stream of a random key, and the line `ok`.
+use Rattle.std.specs.Prelude.{◌≡◌, ℕ, false, List, [], option_map}
+use Rattle.rand_chacha.specs.ChaCha.{of_seed}
+use Rattle.vc_layout.specs.Layout.{IsHideable}
+use Rattle.volume_format.specs.Hidden.{formatted_hidden}
+use Rattle.volume_format.specs.declared.hidden.HiddenSpec.{HiddenSpec}
+use Rattle.vc_app.specs.declared.status.Status.TheVariants.{BadSize}
+use Rattle.vc_app.specs.Format.{done_line}
+use Rattle.vc_app.specs.Promise.{Plan, Promise, goes, hidden_slots}
+
+abbrev pub hidden_plan : HiddenSpec → List ℕ → List ℕ → Plan
+hidden_plan spec random image = record { image = formatted_hidden (of_seed random) spec image; output = done_line }
+
+-- It opens nothing, so that only the container's length can refuse it.
+abbrev pub promise : HiddenSpec → List ℕ → Promise
+promise spec random = record {
+  admits = λ len. IsHideable len spec.size spec.sector;
+  early = λ len s. s ≡ BadSize;
+  late = [];
+  plan = option_map (λ image. goes (hidden_plan spec random image));
+  reach = hidden_slots;
+  length_left = λ len. len;
+  streams = false;
+}

@@ -1,0 +1,61 @@
+//! `hide`: a hidden volume in a container.
+ghost use Rattle.std.specs.Prelude.{◌≡◌};
+ghost use Rattle.kdf_hmac.specs.Pbkdf2.{IsPim};
+ghost use Rattle.vc_app.specs.Hide.{promise};
+ghost use Rattle.vc_app.specs.Promise.{Kept, seen};
+ghost use Rattle.vc_app.specs.Status.{ended, hide_status};
+
+use crate::counts::{Counts, WorkError};
+use crate::output::write_all;
+use rand_chacha::ChaCha20Rng;
+use rand_core::SeedableRng;
+use vc_outside::{Sink, Store};
+use volume_format::{FormatError as HiddenError, HiddenSpec, format_hidden};
+
+/// Why `hide` failed.
+#[derive(Clone, Copy, Debug, PartialEq, Eq)]
+pub enum HideError {
+    /// The container can't have a hidden volume of the asked size. Nothing changed.
+    BadSize,
+    /// The work stopped. After a fault of the output the hidden volume is made; after one of the container only
+    /// bytes of its two header slots may have changed.
+    Work(WorkError),
+}
+
+impl From<WorkError> for HideError {
+    ghost use Rattle.vc_app.specs.declared.commands.hide.HideError.{HideError};
+
+    ghost from_gives = { λ e h. h ≡ HideError.Work e };
+
+    fn from(error: WorkError) -> HideError {
+        HideError::Work(error)
+    }
+}
+
+/// Makes the hidden volume, from the stream of a random key, and says so.
+pub fn run_hide<D: Store, O: Sink>(
+    disk: &mut D,
+    out: &mut O,
+    spec: &HiddenSpec,
+    random: [u8; 32],
+) -> Result<(), HideError>
+    requires { IsPim spec.now.pim }
+    ensures { Kept (promise spec.now random) (ended hide_status result)
+        (seen ⟦<D as Store>⟧ ⟦<O as Sink>⟧ disk.old out.old) (seen ⟦<D as Store>⟧ ⟦<O as Sink>⟧ disk.new out.new) }
+{
+    let counts = Counts::new(disk, out);
+    let mut rng = ChaCha20Rng::from_seed(random);
+    match format_hidden(disk, &mut rng, spec) {
+        Ok(()) => {}
+        Err(HiddenError::BadSize) => return Err(HideError::BadSize),
+        Err(HiddenError::WriteFault) => return Err(HideError::Work(WorkError::DiskFault)),
+        Err(HiddenError::NoMemory) => unreachable!(),
+    }
+    // A fault that the container recovered from is known before anything is written.
+    if counts.disk_failed(disk) {
+        return Err(HideError::Work(WorkError::DiskFault));
+    }
+    let written = write_all(out, b"ok\n");
+    counts.settle(disk, out, written)?;
+    Ok(())
+}
