@@ -68,6 +68,7 @@ pub fn format_outer<D: Store>(
     ensures nothing_drawn { result ≡ Err FormatError.BadSize → rng.new ≡ rng.old }
     ensures same_image { result ≡ Err FormatError.NoMemory → D.image disk.new ≡ D.image disk.old }
     ensures same_size { result ≡ Err FormatError.NoMemory → D.size disk.new ≡ D.size disk.old }
+    ensures same_faults { result ≡ Err FormatError.NoMemory → D.faults disk.new ≡ D.faults disk.old }
     ensures same_stream { result ≡ Err FormatError.NoMemory → rng.new ≡ rng.old }
     ensures cause { HasCause (D.faults disk.old) (D.faults disk.new)
         (IsErrOf result FormatError.WriteFault) }
