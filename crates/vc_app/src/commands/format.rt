@@ -48,12 +48,7 @@ pub fn run_format<D: Store, O: Sink>(
         Ok(()) => {}
         Err(OuterError::BadSize) => return Err(FormatError::BadSize),
         Err(OuterError::WriteFault) => return Err(FormatError::Work(WorkError::DiskFault)),
-        Err(OuterError::NoMemory) => {
-            if counts.disk_failed(disk) {
-                return Err(FormatError::Work(WorkError::DiskFault));
-            }
-            return Err(FormatError::Work(WorkError::NoMemory));
-        }
+        Err(OuterError::NoMemory) => return Err(FormatError::Work(WorkError::NoMemory)),
     }
     // A fault that the container recovered from is known before anything is written.
     if counts.disk_failed(disk) {

@@ -1,7 +1,7 @@
 //! `hide`, sectors of other sizes, and which header opens then.
 use super::{FORMAT, column, number, run};
 use crate::Status;
-use std::alloc::{AllocError, Global};
+use std::alloc::Global;
 use std::test::Fail;
 use vc_outside::{MemStore, SureStore};
 
@@ -98,12 +98,12 @@ fn only_the_length_of_a_container_refuses_hide(rt: HostRuntime) -> Result<(), Fa
 }
 
 // A store in memory that holds these bytes, and whose call `fails` fails.
-fn failing(alloc: Global, bytes: &[u8], fails: u64) -> Result<MemStore, AllocError> {
+fn failing(alloc: Global, bytes: &[u8], fails: u64) -> Result<MemStore, Fail> {
     let mut image = Vec::new(alloc);
     image.extend_from_slice(bytes)?;
     let mut listed = Vec::new(alloc);
     listed.push(fails)?;
-    MemStore::new(alloc, image, listed, None, 4_096, 1 << 20)
+    Ok(MemStore::new(alloc, image, listed, None, 4_096, 1 << 20)?)
 }
 
 // The smallest container: a write for each header, and the sync.

@@ -18,14 +18,6 @@ returns-in-Err-WriteFault g c =
     (λ t early. let is = c.in-Err-WriteFault.ensures.bad_size.1 early.refuses in let here = c.in-Err-WriteFault.field-0-is in cc) tt refl
     (c.in-Err-WriteFault.ensures.cause.rose (ap (λ e. Err e) c.in-Err-WriteFault.field-0-is)) c.format_outer.ensures.cause.later (omega arith)
 
-pub returns-then-disk_failed : goal.returns-then-disk_failed
-returns-then-disk_failed g c =
-    let later = c.format_outer.ensures.cause.later in
-    fault_kept (promise c.args.spec.now c.args.random) (seen g.D.Store g.O.Sink c.args.disk.now c.args.out.now)
-    (seen g.D.Store g.O.Sink c.format_outer.new.disk c.args.out.now)
-    (λ t early. let is = c.in-Err-NoMemory.ensures.bad_size.1 early.refuses in let here = c.in-Err-NoMemory.field-0-is in cc) tt refl
-    (rose_of _ _ later (λ same. c.if-disk_failed.ensures (same ∙ sym c.new-counts.ensures.disk))) later (omega arith)
-
 pub returns-in-Err-NoMemory : goal.returns-in-Err-NoMemory
 returns-in-Err-NoMemory g c =
     let none = ap (λ e. Err e) c.in-Err-NoMemory.field-0-is in
@@ -37,15 +29,15 @@ returns-in-Err-NoMemory g c =
       disk_later = c.format_outer.ensures.cause.later;
       out_later = omega arith;
     })
-    tt (c.if-disk_failed.ensures ∙ c.new-counts.ensures.disk) refl
+    tt (c.in-Err-NoMemory.ensures.same_faults none) refl
 
-pub returns-then-disk_failed-2 : goal.returns-then-disk_failed-2
-returns-then-disk_failed-2 g c =
+pub returns-then-disk_failed : goal.returns-then-disk_failed
+returns-then-disk_failed g c =
     let later = c.format_outer.ensures.cause.later in
     fault_kept (promise c.args.spec.now c.args.random) (seen g.D.Store g.O.Sink c.args.disk.now c.args.out.now)
     (seen g.D.Store g.O.Sink c.format_outer.new.disk c.args.out.now)
     (λ t early. early.refuses c.in-Ok.ensures.formattable) tt refl
-    (rose_of _ _ later (λ same. c.if-disk_failed-2.ensures (same ∙ sym c.new-counts.ensures.disk))) later (omega arith)
+    (rose_of _ _ later (λ same. c.if-disk_failed.ensures (same ∙ sym c.new-counts.ensures.disk))) later (omega arith)
 
 pub returns-in_err-settle : goal.returns-in_err-settle
 returns-in_err-settle g c =
@@ -71,7 +63,7 @@ returns-in_err-settle g c =
     made tt c.write_all-written.ensures.done c.write_all-written.ensures.front
     (λ e _. absurd (elim (c.settle.ensures.disk e) [
       | inl fault ↦ c.write_all-written.ensures.not_disk fault
-      | inr other ↦ other c.if-disk_failed-2.ensures
+      | inr other ↦ other c.if-disk_failed.ensures
     ]))
     (record { later = c.format_outer.ensures.cause.later; rose = λ e. absurd (c.write_all-written.ensures.not_disk e) })
     c.write_all-written.ensures.cause))
@@ -97,7 +89,7 @@ returns g c =
     made tt c.write_all-written.ensures.done c.write_all-written.ensures.front
     (λ e _. absurd (elim (c.settle.ensures.disk e) [
       | inl fault ↦ c.write_all-written.ensures.not_disk fault
-      | inr other ↦ other c.if-disk_failed-2.ensures
+      | inr other ↦ other c.if-disk_failed.ensures
     ]))
     (record { later = c.format_outer.ensures.cause.later; rose = λ e. absurd (c.write_all-written.ensures.not_disk e) })
     c.write_all-written.ensures.cause))
