@@ -16,3 +16,19 @@ pub mod Elements
 pub mod Admitted
 -- the book and the pending writes
 pub mod Booked
+-- a write to the container, unit by unit
+pub mod Rewritten
+-- a pending write replaced in its place
+pub mod Replaced
+-- a fragment is stored, or its write failed
+pub mod Deposited
+-- what is stored of a fragment deciphers to it
+pub mod SealedUnits
+-- a pending write is found by its name
+pub mod Found
+-- a stored fragment after another was stored
+pub mod StoredAfter
+-- the part of a write's data that a fragment has
+pub mod CutFragment
+-- the state of a fragment by what a deposit returns
+pub mod StateByAnswer

@@ -1,2 +1,6 @@
 -- what a core's fields always keep
 pub mod Invariant
+-- a pending write whose fragment got a new state
+pub mod Marked
+-- what became of a fragment that was written
+pub mod Sealed

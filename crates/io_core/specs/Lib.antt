@@ -8,3 +8,5 @@ pub mod Sound
 pub mod Entries
 -- what only this crate's own clauses name
 pub mod Laws
+-- what a deposit does to the pending writes
+pub mod Deposits

@@ -1,5 +1,6 @@
 //! What the events answer.
 use crate::prepared::Prepared;
+use sector_model::FaultMark;
 
 /// What became of a write that asked for admission. A write that isn't admitted is handed back unchanged.
 #[derive(Drop)]
@@ -12,4 +13,14 @@ pub enum Admit {
     Frozen(Prepared),
     /// A pending write overlaps it, or as many writes are pending as may be.
     Later(Prepared),
+}
+
+/// What became of a fragment that was handed in.
+#[derive(Clone, Copy, Debug, PartialEq, Eq)]
+pub enum Deposit {
+    Stored,
+    /// The write to the store failed.
+    Spoilt(FaultMark),
+    /// No such fragment is waiting. Nothing changed.
+    Stray,
 }

@@ -6,11 +6,12 @@
 //! ```text
 //!             admit_write
 //!   Prepared -------------> pending: its range is free of reads and other writes
-//!      ^           |
+//!      ^           |           each fragment:  waiting --deposit--> stored, or spoilt
 //!      +-----------+ handed back: denied, frozen, or to be asked again later
 //! ```
 //!
-//! The events so far are admission and flush. Nothing ends a pending write yet.
+//! The events so far are admission, deposits and flush. Nothing ends a pending write yet. Fragments are
+//! deposited in any order. Whoever deposits one has enciphered it, outside the event.
 //!
 //! A write takes effect when it is admitted. `specs/Sound.antt` says what a state stands for: an opening
 //! state and a history. Each event keeps that, also if the store fails.
@@ -18,16 +19,19 @@
 //! take memory.
 #![tactic(auto)]
 
-pub use answers::Admit;
+pub use answers::{Admit, Deposit};
 pub use part::PartState;
 pub use prepared::{NoMemory, Prepared};
 pub use state::Core;
 
 pub mod admit;
 pub mod answers;
+pub mod deposit;
 pub mod flush;
 pub mod part;
+pub mod pending;
 pub mod prepared;
+pub mod seal;
 pub mod state;
 #[cfg(test)]
 mod tests;

@@ -1,7 +1,7 @@
 //! Events over a store in memory, with a cipher that does nothing.
-ghost use Rattle.std.specs.Prelude.{refl};
+ghost use Rattle.std.specs.Prelude.{◌≡◌, ◌%◌, length, refl};
 
-use crate::{Admit, Core, Prepared};
+use crate::{Admit, Core, Deposit, Prepared};
 use cipher_base::UnitCipher;
 use sector_model::FaultMark;
 use std::test::Fail;
@@ -86,5 +86,96 @@ fn one_write_is_pending_at_a_time(rt: HostRuntime) -> Result<(), Fail> {
         return Err("the first write".into());
     };
     assert_eq!(rt; core.pending(), 1);
+    Ok(())
+}
+
+// A core of a volume of 1536 sectors from byte 512 on, over zeros. A write of nines to all of it is pending, as
+// request 0 of caller 1. The store's call with the number `failing` fails.
+fn with_three_fragments(rt: &HostRuntime, failing: u64) -> Option<Core<MemStore, Same>> {
+    let zeros = vec![in rt.alloc(); 0u8; 787_456].ok()?;
+    let fails = vec![in rt.alloc(); failing; 1].ok()?;
+    let Ok(disk) = MemStore::new(rt.alloc(), zeros, fails, None, 16, 787_456) else {
+        return None;
+    };
+    let geometry = Geometry {
+        start: 512,
+        sectors: 1536,
+        sector: 512,
+    };
+    let Ok(mut core) = Core::new(rt.alloc(), disk, geometry, Same, None, 1) else {
+        return None;
+    };
+    let nines = vec![in rt.alloc(); 9u8; 786_432].ok()?;
+    let write = Prepared::new(rt.alloc(), 1, 0, 0, nines).ok()?;
+    match core.admit_write(write) {
+        Admit::In => Some(core),
+        _ => None,
+    }
+}
+
+// Hands in this data for a fragment of that write.
+fn hand_in(core: &mut Core<MemStore, Same>, index: u64, unit: u64, handed: &[u8]) -> Deposit
+    requires { length handed.now % 512 ≡ 0 }
+{
+    core.deposit(1, 0, index, unit, handed, handed)
+}
+
+// By hand: a write to the store that fails stores the first half of its bytes, and counts one fault. The call
+// with the number 3 is never made.
+#[test]
+fn three_fragments_are_stored_in_each_order(rt: HostRuntime) -> Result<(), Fail> {
+    let orders = [
+        [0u64, 1, 2],
+        [0, 2, 1],
+        [1, 0, 2],
+        [1, 2, 0],
+        [2, 0, 1],
+        [2, 1, 0],
+    ];
+    for order in orders {
+        for failing in 0..4u64 {
+            let Some(mut core) = with_three_fragments(&rt, failing) else {
+                return Err("no memory".into());
+            };
+            for (call, index) in order.iter().enumerate() {
+                let want = if call as u64 == failing {
+                    Deposit::Spoilt(FaultMark {
+                        before: 0,
+                        after: 1,
+                    })
+                } else {
+                    Deposit::Stored
+                };
+                assert_eq!(rt; hand_in(&mut core, *index, 0, &[]), want);
+                assert_eq!(rt;
+                    hand_in(&mut core, *index, 0, &[]),
+                    Deposit::Stray,
+                    "it waits no more"
+                );
+            }
+            let stored = core.disk.bytes().iter().filter(|byte| **byte == 9).count();
+            assert_eq!(rt; stored, if failing < 3 { 655_360 } else { 786_432 });
+        }
+    }
+    Ok(())
+}
+
+// What is handed in is other data, then the fragment's data for other units, and then that for its own.
+#[test]
+fn a_fragment_has_its_own_data_whatever_is_handed_in(rt: HostRuntime) -> Result<(), Fail> {
+    let Some(mut core) = with_three_fragments(&rt, 9) else {
+        return Err("no memory".into());
+    };
+    let nines = [9u8; 262_144];
+    assert_eq!(rt; hand_in(&mut core, 0, 1, &[0; 512]), Deposit::Stored);
+    assert_eq!(rt; hand_in(&mut core, 2, 1, &nines), Deposit::Stored);
+    assert_eq!(rt; hand_in(&mut core, 1, 513, &nines), Deposit::Stored);
+    assert_eq!(rt;
+        hand_in(&mut core, 3, 1537, &nines),
+        Deposit::Stray,
+        "past the last fragment"
+    );
+    let stored = core.disk.bytes().iter().filter(|byte| **byte == 9).count();
+    assert_eq!(rt; stored, 786_432);
     Ok(())
 }
