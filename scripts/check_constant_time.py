@@ -23,7 +23,7 @@ import subprocess
 import sys
 import tempfile
 
-from compare_ciphers import BLOCKS, CIPHERS, KEY, build
+from compare_ciphers import BLOCKS, CIPHERS, KEY, cipher_probe
 
 CASES = 3
 CONTROL = "twofish"
@@ -55,7 +55,7 @@ def reports(name, marks):
     """What memcheck reports of a cipher's program: its text, or nothing."""
     crate, kind, _ = CIPHERS[name]
     with tempfile.TemporaryDirectory() as folder:
-        program = build(folder, crate, kind, CASES)
+        program = cipher_probe(folder, crate, kind, CASES)
         records = random.randbytes(CASES * (KEY + BLOCKS))
         words = ["valgrind", "--quiet", f"--error-exitcode={REPORTED}", program]
         run = subprocess.run(words, input=records, capture_output=True,

@@ -5,29 +5,27 @@
 
 NAME is a row of CIPHERS, `serpent` if none is named, and CASES how many keys and lists of blocks
 are tried, 10000 if no number is given. The first cases have one bit set or none, the others are
-random. A list has eleven blocks: the first is treated alone, and the other ten by one call, since
-some ciphers treat blocks in groups of eight and the rest after them.
+random. A list has ten blocks: the first is treated alone, and the other nine by one call, since
+ciphers treat blocks in groups of eight or in pairs, and the rest after them.
 
-No program of the repository enciphers single blocks. So a copy of the cipher's crate and of those
-below it is made in a temporary folder, with a program beside them that does, and `rt run` proves
-and builds it.
+No program of the repository enciphers single blocks, so a probe does (probe.py).
 
 The status is 0 if all results agree; 1 if two differ, and then the case with the fewest bits is
 printed; 77 if libgcrypt or `rt` is missing.
 """
 import ctypes
 import ctypes.util
-import os
 import random
 import shutil
 import subprocess
 import sys
 import tempfile
 
-ROOT = os.path.dirname(os.path.dirname(os.path.abspath(__file__)))
+from probe import build
+
 KEY, BLOCK = 32, 16
-# a block alone, and ten in a list
-BLOCKS = 11 * BLOCK
+# a block alone, and nine in a list
+BLOCKS = 10 * BLOCK
 ECB = 1
 
 # our name: the crate, its type, and libgcrypt's name
@@ -52,7 +50,7 @@ fn main(rt: HostRuntime) -> io::Result<()> {{
         input.read_exact(&mut key)?;
         let mut block = [0; 16];
         input.read_exact(&mut block)?;
-        let mut list = [0; 160];
+        let mut list = [0; 144];
         input.read_exact(&mut list)?;
         let cipher = {type}::new(&key);
         let mut enciphered = block;
@@ -71,51 +69,16 @@ fn main(rt: HostRuntime) -> io::Result<()> {{
 """
 
 
-def below(crate):
-    """The crates of crates.txt that a crate stands on, itself included, each with its line."""
-    lines = {}
-    with open(os.path.join(ROOT, "crates.txt"), encoding="utf-8") as file:
-        for line in file:
-            if ":" in line and not line.startswith("#"):
-                name, deps = line.strip().split(":")
-                lines[name.split()[0]] = deps.split()
-    found, waiting = {}, [crate]
-    while waiting:
-        name = waiting.pop()
-        if name in lines and name not in found:
-            found[name] = lines[name]
-            waiting += lines[name]
-    return found
-
-
-def build(folder, crate, kind, count):
+def cipher_probe(folder, crate, kind, count):
     """The path of a program that treats `count` cases by our cipher, built in a folder."""
-    crates = below(crate)
-    for name in crates:
-        shutil.copytree(
-            os.path.join(ROOT, "crates", name),
-            os.path.join(folder, "crates", name),
-            ignore=shutil.ignore_patterns("out", "must-fail"),
-        )
-    with open(os.path.join(folder, "crates.txt"), "w", encoding="utf-8") as file:
-        for name, deps in crates.items():
-            file.write(f"{name}: {' '.join(deps)}\n")
-        file.write(f"cipher_probe: {' '.join(crates)}\n")
-    probe = os.path.join(folder, "crates", "cipher_probe")
-    os.makedirs(os.path.join(probe, "src"))
-    with open(os.path.join(probe, "src", "main.rt"), "w", encoding="utf-8") as file:
-        file.write(PROBE.format(**{"crate": crate, "type": kind, "cases": count}))
-    built = subprocess.run(["rt", "run"], cwd=probe, capture_output=True, input=b"")
-    program = os.path.join(probe, "out", "cipher_probe")
-    if not os.path.exists(program):
-        sys.exit("the program was not built:\n" + built.stdout.decode() + built.stderr.decode())
-    return program
+    source = PROBE.format(**{"crate": crate, "type": kind, "cases": count})
+    return build(folder, [crate], "cipher_probe", source)
 
 
 def ours(crate, kind, cases):
     """What our cipher makes of each case: the blocks enciphered, and the blocks deciphered."""
     with tempfile.TemporaryDirectory() as folder:
-        program = build(folder, crate, kind, len(cases))
+        program = cipher_probe(folder, crate, kind, len(cases))
         records = b"".join(key + blocks for key, blocks in cases)
         told = subprocess.run([program], input=records, capture_output=True, check=True).stdout
     pairs = [told[i : i + 2 * BLOCKS] for i in range(0, len(told), 2 * BLOCKS)]

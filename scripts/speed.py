@@ -20,7 +20,9 @@ formatting   `format` of 256 MiB with PIM 1, in all against `dd` from /dev/zero 
 deciphering  `cat` of 32 MiB with PIM 1, less `cat FILE 0 0`, for each cipher and the longest
              cascade, against libgcrypt's XTS over one stretch of 64 KiB and its bare cipher block
              by block; for AES also against OpenSSL's XTS over units of 512 bytes, with and without
-             the processor's AES instructions. For the cascade the baselines' times are added
+             the processor's AES instructions. AES's baseline is the one without them, and that of
+             the cascade is the three baselines' times added
+enciphering  data units in memory, by a program of its own (probe.py), against deciphering them
 
 It judges nothing: the status is 0, but 77 where the package `cryptography` is missing. A baseline
 that is missing is told and left out.
@@ -39,6 +41,7 @@ import time
 
 from independent_container import (ALGORITHMS, GCRYPT_XTS, GROUP, SECTOR, gcrypt, gcrypt_handle,
                                    is_available, make)
+from probe import build
 
 HERE = os.path.dirname(os.path.abspath(__file__))
 PROGRAM = os.path.join(HERE, "..", "crates", "vcserve", "out", "vcserve")
@@ -53,11 +56,10 @@ GCRYPT_ECB = 1
 NO_AES = {"OPENSSL_ia32cap": "~0x200000200000000"}
 
 
-def processor_time(words, status=0):
-    """The processor time of one run in seconds, user and system."""
+def processor_time(words, status=0, given=b""):
+    """The processor time of one run in seconds, user and system, with this input."""
     before = resource.getrusage(resource.RUSAGE_CHILDREN)
-    run = subprocess.run(words, stdin=subprocess.DEVNULL, stdout=subprocess.DEVNULL,
-                         stderr=subprocess.DEVNULL)
+    run = subprocess.run(words, input=given, stdout=subprocess.DEVNULL, stderr=subprocess.DEVNULL)
     after = resource.getrusage(resource.RUSAGE_CHILDREN)
     if run.returncode != status:
         sys.exit(f"status {run.returncode} in place of {status}: {' '.join(words)}")
@@ -175,10 +177,15 @@ def gcrypt_rate(algorithm, mode):
     return size / sum(best(LONG_TURNS, *each)) / 1e6
 
 
+# The least ratio to its baseline that each algorithm should have, and the goal.
+GOALS = {"aes": (1.0, 1.3), "serpent": (2.8, 3.3), "twofish": (1.3, 1.6), "aes-twofish-serpent": (1.4, 1.8)}
+
+
 def deciphering(program, folder):
     path = os.path.join(folder, "pim_1.vc")
     size = CAT_MIB << 20
-    for name in ("aes", "serpent", "twofish", "aes-twofish-serpent"):
+    baselines = {}
+    for name, (least, goal) in GOALS.items():
         if not is_available(name):
             print(f"deciphering {name}: not measured, libgcrypt is missing")
             continue
@@ -187,14 +194,69 @@ def deciphering(program, folder):
                            lambda: cat_time(program, path, 0, 1))
         seconds = whole - none
         rate = size / seconds / 1e6
-        print(f"deciphering {name}: {seconds:.3f} s for {CAT_MIB} MiB, "
-              f"{rate:.0f} MB/s (at least 10)")
-        compare("libgcrypt XTS", rate, gcrypt_rate(name, GCRYPT_XTS))
-        compare("libgcrypt block by block", rate, gcrypt_rate(name, GCRYPT_ECB))
+        print(f"deciphering {name}: {seconds:.3f} s for {CAT_MIB} MiB, {rate:.0f} MB/s")
         if name == "aes":
             for how, extra in [("with", {}), ("without", NO_AES)]:
-                baseline = openssl_rate("aes-256-xts", "512", "-decrypt", extra=extra)
-                compare(f"openssl {how} AES instructions", rate, baseline)
+                baselines[name] = openssl_rate("aes-256-xts", "512", "-decrypt", extra=extra)
+                compare(f"openssl {how} AES instructions", rate, baselines[name])
+        elif name in ("serpent", "twofish"):
+            baselines[name] = gcrypt_rate(name, GCRYPT_XTS)
+            compare("libgcrypt XTS", rate, baselines[name])
+            compare("libgcrypt block by block", rate, gcrypt_rate(name, GCRYPT_ECB))
+        else:
+            parts = [baselines.get(part) for part in ALGORITHMS[name]]
+            baselines[name] = 1 / sum(1 / part for part in parts) if all(parts) else None
+        compare(f"baseline (at least {least}, goal {goal})", rate, baselines[name])
+
+
+PROBE = """//! Enciphers or deciphers a buffer many times, as three bytes of input say.
+#![tactic(auto)]
+
+use algorithm_names::Algorithm;
+use cascade_set::{Keyed, Keys};
+use cipher_base::UnitCipher;
+use std::io::{self, Read};
+
+fn main(rt: HostRuntime) -> io::Result<()> {
+    let mut head = [0; 3];
+    rt.reader().read_exact(&mut head)?;
+    let [algorithm, direction, count] = head;
+    if algorithm >= 8 {
+        return Ok(());
+    }
+    let keyed = Keyed::new(&Keys {
+        algorithm: Algorithm::at(algorithm),
+        material: [7; 192],
+    });
+    let mut units = [0; 65536];
+    for _ in 0..count {
+        for _ in 0..16 {
+            if direction == 0 {
+                keyed.encipher_units(0, &mut units);
+            } else {
+                keyed.decipher_units(0, &mut units);
+            }
+        }
+    }
+    Ok(())
+}
+"""
+
+
+def enciphering(_program, folder):
+    if shutil.which("rt") is None:
+        print("enciphering: not measured, rt is missing")
+        return
+    probe = build(folder, ["cascade_set"], "units_probe", PROBE)
+    names = list(ALGORITHMS)
+    for name in GOALS:
+        def seconds(direction, count, number=names.index(name)):
+            return processor_time([probe], 0, bytes([number, direction, count]))
+        enciphered, deciphered, none = best(LONG_TURNS, lambda: seconds(0, 64), lambda: seconds(1, 64),
+                                            lambda: seconds(0, 0))
+        rates = [(64 << 20) / (time - none) / 1e6 for time in (enciphered, deciphered)]
+        print(f"enciphering {name}: {rates[0]:.0f} MB/s")
+        compare("deciphering (at least 0.90)", *rates)
 
 
 def openssl_rate(name, length, *more, extra={}):
@@ -226,6 +288,7 @@ MEASURES = {
     "failing": failing,
     "formatting": formatting,
     "deciphering": deciphering,
+    "enciphering": enciphering,
 }
 
 
