@@ -9,7 +9,7 @@ import subprocess
 
 from independent_container import (ALGORITHMS, GROUP, PRFS, SECTOR, decipher, formatted, header_fields,
                                    hidden, is_available)
-from program_rows import PASSWORD, format_words, info_words, words_of
+from program_rows import ANYTHING, PASSWORD, format_words, info_words, words_of
 
 HIDDEN_PASSWORD = "hidden horse"
 OUTER_KEY = bytes(range(32))
@@ -125,6 +125,24 @@ def sizes(rows, folder):
                  format_words(path, size, OUTER_KEY.hex(), "--sector", sector), 2)
 
 
+def longest(rows, folder):
+    """The longest container that gets a hidden volume, and one sector more."""
+    path = os.path.join(folder, "longest.vc")
+    for length, status in [((1 << 40) - 512, 0), (1 << 40, 0), ((1 << 40) + 512, 6)]:
+        try:
+            with open(path, "wb") as file:
+                file.truncate(length)
+        except OSError as error:
+            return rows.leave_out(f"a container of {length} bytes", error)
+        rows.row(f"hide: into {length} bytes", hide_words(path, 512, HIDDEN_KEY), status,
+                 b"ok\n" if status == 0 else b"", left=ANYTHING if status == 0 else None)
+        if status == 0:
+            fields = header_fields(path, length - GROUP // 2, HIDDEN_PASSWORD, 1)
+            rows.row(f"hidden volume in {length} bytes", [*info_words(path, HIDDEN_PASSWORD), "--backup"], 0,
+                     text("backup-hidden", fields, "sha512", "aes"))
+    os.remove(path)
+
+
 def damage(rows, folder):
     """A header opens whatever became of the others."""
     path = os.path.join(folder, "damage.vc")
@@ -181,5 +199,6 @@ def cryptsetup(rows, folder):
 def check(rows, folder):
     every_algorithm(rows, folder)
     sizes(rows, folder)
+    longest(rows, folder)
     damage(rows, folder)
     cryptsetup(rows, folder)
