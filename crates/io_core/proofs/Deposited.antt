@@ -3,11 +3,10 @@
 -- Either way the container differs in the fragment's units alone. These are units of one pending write, which no
 -- other pending write has and none of which is protected. So all that is said of other units stays. If the fragment
 -- was stored, its own units now decipher to its data.
-use Rattle.std.proofs.Common.{◌≡◌, ◌≤◌, ◌<◌, ℕ, suc, ◌+◌, ◌*◌, ◌/◌, List, [], ◌∷◌, ◌++◌, Option, Some, None, get_or, set, sym, ap, subst, ◌∙◌, arith, mul-le-mul_left, append-nil, append_assoc}
-use Rattle.std.specs.Prelude.{map, slice_get}
-use Rattle.std.specs.List.{All, AllPairs, Contains}
-use Rattle.std.proofs.lemmas.List.{map-append}
-use Rattle.range_base.specs.Range.{IsInRange, Overlap}
+use Rattle.std.proofs.Common.{◌≡◌, ◌≤◌, ℕ, suc, ◌+◌, ◌*◌, ◌/◌, List, [], ◌∷◌, ◌++◌, Option, Some, None, get_or, set, sym, ap, subst, ◌∙◌, arith, mul-le-mul_left, append-nil, append_assoc}
+use Rattle.std.specs.Prelude.{slice_get}
+use Rattle.std.specs.List.{All, Contains}
+use Rattle.range_base.specs.Range.{IsInRange}
 use Rattle.hidden_guard.specs.Protection.{Touches}
 use Rattle.vc_outside.specs.Told.{Both}
 use Rattle.vc_outside.specs.declared.store.Store.{Ghosts as StoreGhosts}
@@ -24,11 +23,12 @@ use Rattle.io_core.specs.Laws.Sealed.{IsOutcome}
 use Rattle.io_core.specs.declared.part.PartState.{PartState}
 use Rattle.io_core.specs.declared.part.PartState.TheVariants.{Waiting, Stored, Spoilt}
 use Rattle.io_core.specs.declared.prepared.Prepared.{Prepared}
+use Rattle.io_core.proofs.OpenWrite as among
 use Rattle.io_core.proofs.Known.{both_step}
-use Rattle.io_core.proofs.Apart.{turned, units_apart, units_of_sectors}
+use Rattle.io_core.proofs.Apart.{units_of_sectors}
 use Rattle.io_core.proofs.Elements.{all_unmapped, at_element, element_right, first_element}
 use Rattle.io_core.proofs.OneMoreMark.{all_left, all_right, marks_later, one_more_mark}
-use Rattle.io_core.proofs.Replaced.{all_replaced, IsInserted, IsReplaced, map_replaced, marks_replaced, pairs_above, pairs_below}
+use Rattle.io_core.proofs.Replaced.{all_replaced, IsInserted, IsReplaced, map_replaced, marks_replaced}
 use Rattle.io_core.proofs.Rewritten.{Rewrites}
 
 -- units of a placed write, in the container: they aren't protected, and lie in the volume
@@ -51,25 +51,11 @@ module _ {S C : Type 0} (store : StoreGhosts S) (cipher : CipherGhosts C) (base 
   abbrev v : Volume
   v = volume base
 
-  -- the write that the history knows is open
-  abbrev opens : List Write
-  opens = map write_of r.below ++ write_of p ∷ map write_of r.above
-
-  opens_are : open_writes h ≡ opens
-  opens_are = sym sound.writes ∙ ap (map write_of) r.was ∙ map-append write_of r.below (p ∷ r.above)
-
-  abbrev Apart : Write → Write → Type 0
-  Apart x y = ¬ Overlap x.first (sectors_of v x.bytes) y.first (sectors_of v y.bytes)
-
-  all_apart : AllPairs Apart opens
-  all_apart = subst (AllPairs Apart) opens_are sound.apart
-
-  all_placed : All (IsPlacedWrite v) opens
-  all_placed = subst (All (IsPlacedWrite v)) opens_are sound.placed
+  abbrev Beside : Write → Type 0
+  Beside x = among.IsBeside store cipher base h s sound p r.below r.above r.was x
 
   mine : IsPlacedWrite v (write_of p)
-  mine = at_element (IsPlacedWrite v) opens (write_of p) all_placed
-      (element_right (map write_of r.below) (write_of p ∷ map write_of r.above) (write_of p) (first_element (write_of p) (map write_of r.above)))
+  mine = among.mine store cipher base h s sound p r.below r.above r.was
 
   module _ (first n : ℕ) (from : start + per * p.first ≤ first) (to : first + n ≤ start + per * p.first + units_of p.bytes.items)
       (old new : List ℕ) (rewrites : Rewrites first n old new) where
@@ -79,25 +65,9 @@ module _ {S C : Type 0} (store : StoreGhosts S) (cipher : CipherGhosts C) (base 
     plain_same u out = ap (cipher.deciphered base.cipher (start + u)) (rewrites.others (start + u)
         (λ inside. out (record { from = omega (arith, inside.from); below = omega (arith, inside.below) })))
 
-    -- a unit of another pending write isn't one of this write
-    other_apart : (x : Write) → IsPlacedWrite v x → ¬ Overlap x.first (sectors_of v x.bytes) p.first (sectors_of v p.bytes.items)
-        → (j : ℕ) → j < units_of x.bytes → ¬ IsInRange (per * p.first) (units_of p.bytes.items) (per * x.first + j)
-    other_apart x x_placed none j within here =
-        units_apart per x.first (sectors_of v x.bytes) p.first (sectors_of v p.bytes.items) (per * x.first + j) none
-        (subst (λ (m : ℕ). IsInRange (per * x.first) m (per * x.first + j)) (units_of_sectors v x.bytes x_placed.whole)
-        (record { from = omega arith; below = omega arith }))
-        (subst (λ (m : ℕ). IsInRange (per * p.first) m (per * x.first + j)) (units_of_sectors v p.bytes.items mine.whole) here)
-
-    other_stored : (x : Prepared) → IsPlacedWrite v (write_of x)
-        → ¬ Overlap x.first (sectors_of v x.bytes.items) p.first (sectors_of v p.bytes.items)
+    other_stored : (x : Prepared) → Beside (write_of x)
         → StoredHolds store cipher base.cipher base.geometry old x → StoredHolds store cipher base.cipher base.geometry new x
-    other_stored x x_placed none holds j within is =
-        plain_same (per * x.first + j) (other_apart (write_of x) x_placed none j within) ∙ holds j within is
-
-    -- a unit of this write outside of the fragment holds what it did
-    rest_stored : (j : ℕ) → ¬ IsInRange first n (start + (per * p.first + j))
-        → plain store cipher base.cipher base.geometry new (per * p.first + j) ≡ plain store cipher base.cipher base.geometry old (per * p.first + j)
-    rest_stored j out = ap (cipher.deciphered base.cipher (start + (per * p.first + j))) (rewrites.others (start + (per * p.first + j)) out)
+    other_stored x beside holds j within is = plain_same (per * x.first + j) (beside j within) ∙ holds j within is
 
     elsewhere : (opening : List ℕ) → SameElsewhere base.geometry base.guard.range opening old
         → SameElsewhere base.geometry base.guard.range opening new
@@ -125,29 +95,22 @@ module _ {S C : Type 0} (store : StoreGhosts S) (cipher : CipherGhosts C) (base 
         let P : Prepared → Type 0 = StoredHolds store cipher base.cipher base.geometry old in
         let Q : Prepared → Type 0 = StoredHolds store cipher base.cipher base.geometry new in
         let each : All P (r.below ++ p ∷ r.above) = subst (All P) r.was c.stored in
-        let lower_apart : All (λ x. Apart (write_of x) (write_of p)) r.below
-        = all_unmapped write_of (λ x. Apart x (write_of p)) r.below (pairs_below Apart (map write_of r.below) (map write_of r.above) (write_of p) all_apart) in
-        let upper_apart : All (λ x. Apart (write_of p) (write_of x)) r.above
-        = all_unmapped write_of (λ x. Apart (write_of p) x) r.above (pairs_above Apart (map write_of r.below) (map write_of r.above) (write_of p) all_apart) in
-        let lower_placed : All (λ x. IsPlacedWrite v (write_of x)) r.below
-        = all_unmapped write_of (IsPlacedWrite v) r.below (all_left (IsPlacedWrite v) (map write_of r.below) (write_of p ∷ map write_of r.above) all_placed) in
-        let upper_placed : All (λ x. IsPlacedWrite v (write_of x)) r.above
-        = all_unmapped write_of (IsPlacedWrite v) r.above (λ k d within. all_right (IsPlacedWrite v) (map write_of r.below) (write_of p ∷ map write_of r.above) all_placed (suc k) d (omega arith)) in
+        let lower : All (λ x. Beside (write_of x)) r.below
+        = all_unmapped write_of Beside r.below (among.lower_beside store cipher base h s sound p r.below r.above r.was) in
+        let upper : All (λ x. Beside (write_of x)) r.above
+        = all_unmapped write_of Beside r.above (among.upper_beside store cipher base h s sound p r.below r.above r.was) in
         record {
           told = c.told;
           under = c.under;
           clear = λ u none.
               let out : ¬ IsInRange (per * p.first) (units_of p.bytes.items) u
-              = at_element (λ w. ¬ IsInRange (per * w.first) (units_of w.bytes) u) opens (write_of p)
-              (subst (All (λ w. ¬ IsInRange (per * w.first) (units_of w.bytes) u)) opens_are none)
-              (element_right (map write_of r.below) (write_of p ∷ map write_of r.above) (write_of p) (first_element (write_of p) (map write_of r.above))) in
+              = at_element (λ w. ¬ IsInRange (per * w.first) (units_of w.bytes) u) (open_writes h) (write_of p) none
+              (among.is_open store cipher base h s sound p r.below r.above r.was) in
               plain_same u out ∙ c.clear u none;
           stored = all_replaced Q p q s.pending pending r
-              (λ k d within. other_stored (get_or r.below k d) (lower_placed k d within) (lower_apart k d within) (all_left P r.below (p ∷ r.above) each k d within))
+              (λ k d within. other_stored (get_or r.below k d) (lower k d within) (all_left P r.below (p ∷ r.above) each k d within))
               holds
-              (λ k d within. other_stored (get_or r.above k d) (upper_placed k d within)
-              (turned p.first (sectors_of v p.bytes.items) (get_or r.above k d).first (sectors_of v (get_or r.above k d).bytes.items) (upper_apart k d within))
-              (all_right P r.below (p ∷ r.above) each (suc k) d (omega arith)));
+              (λ k d within. other_stored (get_or r.above k d) (upper k d within) (all_right P r.below (p ∷ r.above) each (suc k) d (omega arith)));
           elsewhere = elsewhere opening c.elsewhere;
         }
 

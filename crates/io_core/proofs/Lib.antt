@@ -32,3 +32,11 @@ pub mod StoredAfter
 pub mod CutFragment
 -- the state of a fragment by what a deposit returns
 pub mod StateByAnswer
+-- one pending write among the others
+pub mod OpenWrite
+-- the name and the marks of a write that ends
+pub mod EndedMarks
+-- a write ends
+pub mod Closed
+-- the fields of a core after a write has ended
+pub mod Released

@@ -10,6 +10,7 @@ use Rattle.io_core.specs.declared.part.PartState.{PartState}
 use Rattle.io_core.specs.declared.part.PartState.TheVariants.{Waiting}
 use Rattle.io_core.specs.declared.prepared.Prepared.{Prepared}
 use Rattle.io_core.proofs.Elements.{at_element, element_right, first_element}
+use Rattle.io_core.proofs.OneMoreMark.{all_left, all_right}
 
 pub record IsReplaced {X : Type 0} (p q : X) (old new : List X) : Type 0 where
   pub below : List X
@@ -39,6 +40,18 @@ module _ {X : Type 0} where
   pairs_below R (x ∷ xs) ys p pairs = All-cons (λ z. R z p) x xs
       (at_element (λ y. R x y) (xs ++ p ∷ ys) p (λ k d within. pairs 0 (suc k) d (omega arith) (omega arith)) (element_right xs (p ∷ ys) p (first_element p ys)))
       (pairs_below R xs ys p (λ i j d less within. pairs (suc i) (suc j) d (omega arith) (omega arith)))
+
+-- pairs of a list without one element
+pub pairs_without : {X : Type 0} (R : X → X → Type 0) (xs ys : List X) (w : X) → AllPairs R (xs ++ w ∷ ys) → AllPairs R (xs ++ ys)
+pairs_without R [] ys w pairs i j d less within = pairs (suc i) (suc j) d (omega arith) (omega arith)
+pairs_without R (x ∷ xs) ys w pairs i zero d less within = absurd (omega arith)
+pairs_without R (x ∷ xs) ys w pairs zero (suc j) d less within =
+    All-append (R x) xs ys
+    (all_left (R x) xs (w ∷ ys) (λ k e below. pairs 0 (suc k) e (omega arith) (omega arith)))
+    (λ k e below. all_right (R x) xs (w ∷ ys) (λ i f inside. pairs 0 (suc i) f (omega arith) (omega arith)) (suc k) e (omega arith))
+    j d (omega arith)
+pairs_without R (x ∷ xs) ys w pairs (suc i) (suc j) d less within =
+    pairs_without R xs ys w (λ a b e under inside. pairs (suc a) (suc b) e (omega arith) (omega arith)) i j d (omega arith) (omega arith)
 
 pub map_replaced : {Y : Type 0} (f : Prepared → Y) (p q : Prepared) (old new : List Prepared) → IsReplaced p q old new → f q ≡ f p
     → map f new ≡ map f old

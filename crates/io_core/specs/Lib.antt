@@ -10,3 +10,5 @@ pub mod Entries
 pub mod Laws
 -- what a deposit does to the pending writes
 pub mod Deposits
+-- what a close does
+pub mod Closings

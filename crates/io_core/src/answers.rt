@@ -15,6 +15,17 @@ pub enum Admit {
     Later(Prepared),
 }
 
+/// What became of a write that was to end.
+#[derive(Drop)]
+pub enum Close {
+    /// A fragment is waiting. Nothing changed.
+    Waiting,
+    /// All of it was stored. Its data is handed back.
+    Done(Vec<u8>),
+    /// Each fragment was stored or failed: the mark of the first that failed.
+    Lost(FaultMark),
+}
+
 /// What became of a fragment that was handed in.
 #[derive(Clone, Copy, Debug, PartialEq, Eq)]
 pub enum Deposit {

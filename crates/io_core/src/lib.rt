@@ -8,10 +8,13 @@
 //!   Prepared -------------> pending: its range is free of reads and other writes
 //!      ^           |           each fragment:  waiting --deposit--> stored, or spoilt
 //!      +-----------+ handed back: denied, frozen, or to be asked again later
+//!
+//!            close_write
+//!   pending -------------> done, if all fragments were stored; lost, if one was spoilt and none is waiting
 //! ```
 //!
-//! The events so far are admission, deposits and flush. Nothing ends a pending write yet. Fragments are
-//! deposited in any order. Whoever deposits one has enciphered it, outside the event.
+//! The events so far are these and a flush; reads aren't there yet. Fragments are deposited in any order.
+//! Whoever deposits one has enciphered it, outside the event.
 //!
 //! A write takes effect when it is admitted. `specs/Sound.antt` says what a state stands for: an opening
 //! state and a history. Each event keeps that, also if the store fails.
@@ -19,13 +22,14 @@
 //! take memory.
 #![tactic(auto)]
 
-pub use answers::{Admit, Deposit};
+pub use answers::{Admit, Close, Deposit};
 pub use part::PartState;
 pub use prepared::{NoMemory, Prepared};
 pub use state::Core;
 
 pub mod admit;
 pub mod answers;
+pub mod close;
 pub mod deposit;
 pub mod flush;
 pub mod part;

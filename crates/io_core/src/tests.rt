@@ -1,7 +1,9 @@
 //! Events over a store in memory, with a cipher that does nothing.
-ghost use Rattle.std.specs.Prelude.{◌≡◌, ◌%◌, length, refl};
+ghost use Rattle.std.specs.Prelude.{◌≡◌, ◌%◌, Any, IfSome, length, refl, true};
+ghost use Rattle.sector_model.specs.History.{HasName};
+ghost use Rattle.io_core.specs.State.{write_of};
 
-use crate::{Admit, Core, Deposit, Prepared};
+use crate::{Admit, Close, Core, Deposit, Prepared};
 use cipher_base::UnitCipher;
 use sector_model::FaultMark;
 use std::test::Fail;
@@ -91,7 +93,9 @@ fn one_write_is_pending_at_a_time(rt: HostRuntime) -> Result<(), Fail> {
 
 // A core of a volume of 1536 sectors from byte 512 on, over zeros. A write of nines to all of it is pending, as
 // request 0 of caller 1. The store's call with the number `failing` fails.
-fn with_three_fragments(rt: &HostRuntime, failing: u64) -> Option<Core<MemStore, Same>> {
+fn with_three_fragments(rt: &HostRuntime, failing: u64) -> Option<Core<MemStore, Same>>
+    ensures { IfSome result (λ c. Any (λ p. HasName 1 0 (write_of p)) c.pending) }
+{
     let zeros = vec![in rt.alloc(); 0u8; 787_456].ok()?;
     let fails = vec![in rt.alloc(); failing; 1].ok()?;
     let Ok(disk) = MemStore::new(rt.alloc(), zeros, fails, None, 16, 787_456) else {
@@ -106,7 +110,9 @@ fn with_three_fragments(rt: &HostRuntime, failing: u64) -> Option<Core<MemStore,
         return None;
     };
     let nines = vec![in rt.alloc(); 9u8; 786_432].ok()?;
-    let write = Prepared::new(rt.alloc(), 1, 0, 0, nines).ok()?;
+    let Ok(write) = Prepared::new(rt.alloc(), 1, 0, 0, nines) else {
+        return None;
+    };
     match core.admit_write(write) {
         Admit::In => Some(core),
         _ => None,
@@ -116,8 +122,20 @@ fn with_three_fragments(rt: &HostRuntime, failing: u64) -> Option<Core<MemStore,
 // Hands in this data for a fragment of that write.
 fn hand_in(core: &mut Core<MemStore, Same>, index: u64, unit: u64, handed: &[u8]) -> Deposit
     requires { length handed.now % 512 ≡ 0 }
+    ensures { Any (λ p. HasName 1 0 (write_of p)) core.old.pending → Any (λ p. HasName 1 0 (write_of p)) core.new.pending }
 {
     core.deposit(1, 0, index, unit, handed, handed)
+}
+
+// Whether that write can't be closed yet.
+fn is_waiting(core: &mut Core<MemStore, Same>) -> bool
+    requires { Any (λ p. HasName 1 0 (write_of p)) core.old.pending }
+    ensures { result ≡ true → Any (λ p. HasName 1 0 (write_of p)) core.new.pending }
+{
+    if let Close::Waiting = core.close_write(1, 0) {
+        return true;
+    }
+    false
 }
 
 // By hand: a write to the store that fails stores the first half of its bytes, and counts one fault. The call
@@ -177,5 +195,66 @@ fn a_fragment_has_its_own_data_whatever_is_handed_in(rt: HostRuntime) -> Result<
     );
     let stored = core.disk.bytes().iter().filter(|byte| **byte == 9).count();
     assert_eq!(rt; stored, 786_432);
+    Ok(())
+}
+
+// By hand: the second write to the store fails and stores the first half of its 256 KiB. The write ends once no
+// fragment is waiting, and with the mark of that failure.
+#[test]
+fn a_lost_write_tells_its_first_failure(rt: HostRuntime) -> Result<(), Fail> {
+    let Some(mut core) = with_three_fragments(&rt, 1) else {
+        return Err("no memory".into());
+    };
+    assert_eq!(rt; hand_in(&mut core, 0, 0, &[]), Deposit::Stored);
+    let mark = FaultMark {
+        before: 0,
+        after: 1,
+    };
+    assert_eq!(rt; hand_in(&mut core, 1, 0, &[]), Deposit::Spoilt(mark));
+    if !is_waiting(&mut core) {
+        return Err("a fragment is waiting".into());
+    }
+    assert_eq!(rt; core.pending(), 1);
+    assert_eq!(rt; hand_in(&mut core, 2, 0, &[]), Deposit::Stored);
+    match core.close_write(1, 0) {
+        Close::Lost(first) => assert_eq!(rt; first, mark),
+        _ => return Err("it was lost".into()),
+    }
+    assert_eq!(rt; core.pending(), 0);
+    assert_eq!(rt; hand_in(&mut core, 0, 0, &[]), Deposit::Stray);
+    for (name, sector, want) in [
+        ("before the volume", 0, 0),
+        ("the first fragment", 1, 9),
+        ("the last sector of it", 512, 9),
+        ("the first half of the second one", 513, 9),
+        ("the last sector of that half", 768, 9),
+        ("the other half", 769, 0),
+        ("the last sector of the second one", 1024, 0),
+        ("the third one", 1025, 9),
+        ("the last sector of the volume", 1536, 9),
+        ("behind the volume", 1537, 0),
+    ] {
+        assert_eq!(rt;
+            core.disk.bytes().get(512 * sector).copied(),
+            Some(want),
+            "{name}"
+        );
+    }
+    Ok(())
+}
+
+#[test]
+fn an_ended_write_hands_its_data_back(rt: HostRuntime) -> Result<(), Fail> {
+    let Some(mut core) = with_three_fragments(&rt, 9) else {
+        return Err("no memory".into());
+    };
+    let _ = hand_in(&mut core, 2, 0, &[]);
+    let _ = hand_in(&mut core, 0, 0, &[]);
+    let _ = hand_in(&mut core, 1, 0, &[]);
+    match core.close_write(1, 0) {
+        Close::Done(bytes) => assert_eq!(rt; bytes.len(), 786_432),
+        _ => return Err("it ended".into()),
+    }
+    assert_eq!(rt; core.pending(), 0);
     Ok(())
 }
