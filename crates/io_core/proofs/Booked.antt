@@ -1,12 +1,12 @@
 -- The book has the ranges of the pending writes.
-use Rattle.std.proofs.Common.{◌≡◌, ◌≤◌, ◌↔◌, inl, inr, ℕ, ◌+◌, List, [], ◌∷◌, ◌++◌, Option, Vec, vec_capacity, length, sym, ap, subst, ◌∙◌, arith, length-append}
-use Rattle.std.specs.Prelude.{map}
+use Rattle.std.proofs.Common.{rules, true, false, Some, None, ◌/◌, ap₂, ◌≡◌, ◌≤◌, ◌↔◌, inl, inr, ℕ, ◌+◌, List, [], ◌∷◌, ◌++◌, Option, Vec, vec_capacity, length, sym, ap, subst, ◌∙◌, arith, length-append}
+use Rattle.std.specs.Prelude.{map, is_some, IfSome, IsNone}
 use Rattle.std.specs.Global.{Global}
 use Rattle.std.specs.List.{All, AllPairs, Contains}
 use Rattle.std.proofs.lemmas.List.Quantifiers.{all_pairs_push}
 use Rattle.std.proofs.lemmas.List.{map-append}
 use Rattle.std.proofs.lemmas.List.Elements.{All-push}
-use Rattle.range_book.specs.Book.{AreApart, Book, HasName as HasRangeName, IsAdded, Meets}
+use Rattle.range_book.specs.Book.{AreApart, Book, HasName as HasRangeName, IsAdded, IsFirstToMeet, Meets}
 use Rattle.range_book.specs.declared.reserved.Reserved.{Reserved}
 use Rattle.vc_layout.specs.declared.geometry.Geometry.{Geometry}
 use Rattle.sector_model.specs.Array.{Volume}
@@ -15,6 +15,22 @@ use Rattle.io_core.specs.Laws.Invariant.{IsCore, range_of}
 use Rattle.io_core.specs.State.{IsPlacedWrite, Overlaps, volume_of, write_of}
 use Rattle.io_core.specs.declared.prepared.Prepared.{Prepared}
 use Rattle.io_core.proofs.Elements.{added_element, all_from_elements, all_mapped, all_unmapped, at_element, element_left, element_of_either, element_right, first_element, kept_element, new_element, the_element}
+
+-- a write was met
+pub met : (o : Option (ℕ × ℕ)) (first count : ℕ) (rs : List Reserved) → is_some o ≡ true
+    → IfSome o (λ name. (r : Reserved) × IsFirstToMeet first count rs r × HasRangeName name.0 name.1 r)
+    → (r : Reserved) × Contains rs r × Meets first count r
+met None first count rs some found = cc
+met (Some name) first count rs some found = (found.0, found.1.reserved, found.1.meets)
+
+-- none was
+pub none_met : (o : Option (ℕ × ℕ)) → is_some o ≡ false → IsNone o
+none_met None none = search rules
+none_met (Some name) none = cc
+
+-- the count that the code computes
+pub count_same : (l n u g m : ℕ) → l ≡ n → u ≡ g → g ≡ m → l / 512 / (u / 512) ≡ n / 512 / (m / 512)
+count_same l n u g m a b c = ap₂ (λ (x y : ℕ). x / 512 / (y / 512)) a (b ∙ c)
 
 module _ (v : Volume) (ranges : List Reserved) (ps : List Prepared)
     (booked : (r : Reserved) → Contains ranges r ↔ Contains (map (range_of v) ps) r) where

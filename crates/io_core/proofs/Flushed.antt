@@ -50,17 +50,17 @@ module _ {S C : Type 0} (store : StoreGhosts S) (cipher : CipherGhosts C) where
       refl later sound.marks)
       (λ _ _. lasting) sound
 
-  pub sound_unflushed : (base : State S C) (h : List Entry) (caller number : ℕ) (s : State S C) (disk : S)
+  pub sound_unflushed : (base : State S C) (h : List Entry) (caller number first count : ℕ) (s : State S C) (disk : S)
       → store.size disk ≡ store.size s.disk → store.image disk ≡ store.image s.disk
       → store.faults s.disk ≤ store.faults disk → (m : FaultMark) → IsMark (store.faults s.disk) (store.faults disk) m
       → (IsLasting store.tells (store.image s.disk) (store.may_leave s.disk) → IsLasting store.tells (store.image disk) (store.may_leave disk))
       → Sound store cipher base h s
-      → Sound store cipher base (h ++ entry caller number (Fail 0 0 m) ∷ []) (record s { disk = disk })
-  sound_unflushed base h caller number s disk size image later m mark lasting sound =
-      sound_quiet store cipher base h s (record s { disk = disk }) caller number (Fail 0 0 m)
+      → Sound store cipher base (h ++ entry caller number (Fail first count m) ∷ []) (record s { disk = disk })
+  sound_unflushed base h caller number first count s disk size image later m mark lasting sound =
+      sound_quiet store cipher base h s (record s { disk = disk }) caller number (Fail first count m)
       (record { open_same = λ _. refl; array_same = λ _. refl })
       (record { cipher = refl; geometry = refl; range = refl; capacity = refl }) refl refl size image tt (λ _ _ _ _. tt)
       later
-      (marks_failed (store.faults base.disk) (store.faults s.disk) (store.faults disk) h (entry caller number (Fail 0 0 m)) m (marks_pending s.pending)
+      (marks_failed (store.faults base.disk) (store.faults s.disk) (store.faults disk) h (entry caller number (Fail first count m)) m (marks_pending s.pending)
       refl sound.later later mark sound.marks)
-      (λ flushed none. lasting (sound.lasting (sym (is_flushed-push h (entry caller number (Fail 0 0 m))) ∙ flushed) none)) sound
+      (λ flushed none. lasting (sound.lasting (sym (is_flushed-push h (entry caller number (Fail first count m))) ∙ flushed) none)) sound

@@ -40,3 +40,5 @@ pub mod EndedMarks
 pub mod Closed
 -- the fields of a core after a write has ended
 pub mod Released
+-- a fetch
+pub mod Fetched

@@ -25,7 +25,7 @@ module _ (enc dec : ℕ → List ℕ → List ℕ) (first k : ℕ) (within : fir
   pub length-sealed : length sealed ≡ length xs
   length-sealed = sealed_bytes.count ∙ sym bytes.count
 
-  piece-sealed : (j : ℕ) → j < k → piece 512 j sealed ≡ enc (first + j) (piece 512 j xs)
+  pub piece-sealed : (j : ℕ) → j < k → piece 512 j sealed ≡ enc (first + j) (piece 512 j xs)
   piece-sealed j below =
       ap (piece 512 j) (in_pieces-joined 512 k (λ i u. enc (first + i) u) xs (lit< tt) bytes.count)
       ∙ piece-joined (λ i. enc (first + i) (piece 512 i xs)) 512 k j

@@ -12,3 +12,5 @@ pub mod Laws
 pub mod Deposits
 -- what a close does
 pub mod Closings
+-- what a fetch gives
+pub mod Fetches

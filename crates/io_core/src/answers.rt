@@ -35,3 +35,14 @@ pub enum Deposit {
     /// No such fragment is waiting. Nothing changed.
     Stray,
 }
+
+/// What became of a read.
+#[derive(Clone, Copy, Debug, PartialEq, Eq)]
+pub enum Fetch {
+    /// The buffer has what is stored.
+    Got,
+    /// A pending write overlaps it. Nothing changed.
+    Later,
+    /// The read of the store failed. The buffer has any bytes.
+    Failed(FaultMark),
+}

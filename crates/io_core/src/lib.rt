@@ -13,8 +13,9 @@
 //!   pending -------------> done, if all fragments were stored; lost, if one was spoilt and none is waiting
 //! ```
 //!
-//! The events so far are these and a flush; reads aren't there yet. Fragments are deposited in any order.
-//! Whoever deposits one has enciphered it, outside the event.
+//! The other events are `fetch`, a read, which no pending write may overlap, and a flush. Fragments are
+//! deposited in any order. Whoever deposits one has enciphered it, and whoever fetches sectors deciphers
+//! them, outside the event.
 //!
 //! A write takes effect when it is admitted. `specs/Sound.antt` says what a state stands for: an opening
 //! state and a history. Each event keeps that, also if the store fails.
@@ -22,7 +23,7 @@
 //! take memory.
 #![tactic(auto)]
 
-pub use answers::{Admit, Close, Deposit};
+pub use answers::{Admit, Close, Deposit, Fetch};
 pub use part::PartState;
 pub use prepared::{NoMemory, Prepared};
 pub use state::Core;
@@ -31,6 +32,7 @@ pub mod admit;
 pub mod answers;
 pub mod close;
 pub mod deposit;
+pub mod fetch;
 pub mod flush;
 pub mod part;
 pub mod pending;

@@ -38,7 +38,7 @@ fn sealed_of<'a, C: UnitCipher>(
 }
 
 // Each byte is below 256. It does nothing: a caller's proof needs the fact.
-fn bytes_are_known(bytes: &[u8])
+pub(crate) fn bytes_are_known(bytes: &[u8])
     ensures { IsBytes (length bytes.now) bytes.now }
 {
     let _ = bytes;

@@ -3,7 +3,7 @@ ghost use Rattle.std.specs.Prelude.{◌≡◌, ◌%◌, Any, IfSome, length, ref
 ghost use Rattle.sector_model.specs.History.{HasName};
 ghost use Rattle.io_core.specs.State.{write_of};
 
-use crate::{Admit, Close, Core, Deposit, Prepared};
+use crate::{Admit, Close, Core, Deposit, Fetch, Prepared};
 use cipher_base::UnitCipher;
 use sector_model::FaultMark;
 use std::test::Fail;
@@ -256,5 +256,59 @@ fn an_ended_write_hands_its_data_back(rt: HostRuntime) -> Result<(), Fail> {
         _ => return Err("it ended".into()),
     }
     assert_eq!(rt; core.pending(), 0);
+    Ok(())
+}
+
+// Reads as many sectors as the buffer has. None if they aren't sectors of the volume.
+fn read_back(core: &mut Core<MemStore, Same>, first: u64, out: &mut [u8]) -> Option<Fetch>
+    ensures { core.new.pending ≡ core.old.pending }
+{
+    let count = out.len() as u64 / 512;
+    if core.geometry().sector != 512
+        || count == 0
+        || out.len() % 512 != 0
+        || !core.fits(first, count)
+    {
+        return None;
+    }
+    Some(core.fetch(first, out))
+}
+
+// By hand: the three deposits are the store's calls 0 to 2, and a read that has to wait makes no call. So the
+// call with the number 3 is the first read after the write, which counts one fault.
+#[test]
+fn a_read_waits_for_the_end_of_a_write(rt: HostRuntime) -> Result<(), Fail> {
+    let Some(mut core) = with_three_fragments(&rt, 3) else {
+        return Err("no memory".into());
+    };
+    let mut sector = [7u8; 512];
+    assert_eq!(rt; read_back(&mut core, 0, &mut sector), Some(Fetch::Later));
+    let _ = hand_in(&mut core, 0, 0, &[]);
+    let _ = hand_in(&mut core, 1, 0, &[]);
+    let _ = hand_in(&mut core, 2, 0, &[]);
+    assert_eq!(rt;
+        read_back(&mut core, 1535, &mut sector),
+        Some(Fetch::Later),
+        "all of it is stored, but it hasn't ended"
+    );
+    let kept = sector.iter().filter(|byte| **byte == 7).count();
+    assert_eq!(rt; kept, 512);
+    let Close::Done(_) = core.close_write(1, 0) else {
+        return Err("it ended".into());
+    };
+    let mark = FaultMark {
+        before: 0,
+        after: 1,
+    };
+    assert_eq!(rt;
+        read_back(&mut core, 0, &mut sector),
+        Some(Fetch::Failed(mark))
+    );
+    for first in [0u64, 768, 1535] {
+        let mut read = [0u8; 512];
+        assert_eq!(rt; read_back(&mut core, first, &mut read), Some(Fetch::Got));
+        let nines = read.iter().filter(|byte| **byte == 9).count();
+        assert_eq!(rt; nines, 512, "sector {first}");
+    }
     Ok(())
 }

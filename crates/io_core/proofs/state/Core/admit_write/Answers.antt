@@ -1,8 +1,6 @@
-use Rattle.std.proofs.Common.{rules, ◌≡◌, ℕ, ◌/◌, true, false, List, [], ◌∷◌, ◌++◌, refl, sym, ap, ap₂, subst, ◌∙◌, arith}
-use Rattle.std.specs.Prelude.{is_some, IfSome, IsNone, Option, Some, None}
-use Rattle.std.specs.List.{All, Contains}
-use Rattle.range_book.specs.Book.{HasName as HasRangeName, IsAdded, IsFirstToMeet, Meets}
-use Rattle.range_book.specs.declared.reserved.Reserved.{Reserved}
+use Rattle.std.proofs.Common.{rules, ◌≡◌, ℕ, ◌/◌, true, false, List, [], ◌∷◌, ◌++◌, refl, sym, ap, subst, ◌∙◌, arith}
+use Rattle.std.specs.List.{All}
+use Rattle.range_book.specs.Book.{IsAdded, Meets}
 use Rattle.sector_model.specs.History.{HasName}
 use Rattle.sector_model.specs.declared.entry.Entry.{Entry}
 use Rattle.io_core.specs.declared.prepared.Prepared.{Prepared}
@@ -12,7 +10,7 @@ use Rattle.sector_model.specs.declared.entry.Event.TheVariants.{Deny, Put, Shut}
 use Rattle.io_core.specs.State.{HasPlace, IsPlacedWrite, Overlaps, State, volume_of, write_of}
 use Rattle.io_core.specs.Sound.{Sound, volume}
 use Rattle.io_core.proofs.Admitted.{sound_deny, sound_later, sound_put, sound_shut}
-use Rattle.io_core.proofs.Booked.{core_admitted, free_writes, fresh_ranges, not_free}
+use Rattle.io_core.proofs.Booked.{core_admitted, count_same, free_writes, fresh_ranges, met, none_met, not_free}
 use Rattle.io_core.proofs.state.Core.admit_write.Goals as goal
 use Rattle.io_core.proofs.state.Core.admit_write.Goals.{then-spare-eq0-via-then-spare-eq0, then-spare-eq0-via-else-spare-eq0+then-is_some}
 
@@ -46,22 +44,6 @@ returns-then-spare-eq0-clause-sound g c base h sound =
     let frozen : c.judge.new.self.frozen ≡ s.guard.frozen = search rules in
     subst (λ (t : State _ _). Sound g.S.Store g.C.UnitCipher base (h ++ []) (record t { guard = c.judge.new.self })) (sym c.self.view_is)
     (sound_later g.S.Store g.C.UnitCipher base h s sound c.judge.new.self range frozen)
-
--- a write was met
-met : (o : Option (ℕ × ℕ)) (first count : ℕ) (rs : List Reserved) → is_some o ≡ true
-    → IfSome o (λ name. (r : Reserved) × IsFirstToMeet first count rs r × HasRangeName name.0 name.1 r)
-    → (r : Reserved) × Contains rs r × Meets first count r
-met None first count rs some found = cc
-met (Some name) first count rs some found = (found.0, found.1.reserved, found.1.meets)
-
--- none was
-none_met : (o : Option (ℕ × ℕ)) → is_some o ≡ false → IsNone o
-none_met None none = search rules
-none_met (Some name) none = cc
-
--- the count that the code computes
-count_same : (l n u g m : ℕ) → l ≡ n → u ≡ g → g ≡ m → l / 512 / (u / 512) ≡ n / 512 / (m / 512)
-count_same l n u g m a b c = ap₂ (λ (x y : ℕ). x / 512 / (y / 512)) a (b ∙ c)
 
 pub reserve-requires-clause-fresh : goal.reserve-requires-clause-fresh
 reserve-requires-clause-fresh g c =

@@ -8,7 +8,7 @@ use Rattle.io_core.proofs.state.Core.flush_turn.Goals as goal
 pub returns-in-Err-clause-sound : goal.returns-in-Err-clause-sound
 returns-in-Err-clause-sound g c base h caller number sound =
     let fits : g.S.Store.faults c.sync.new.self < 2 ^ 64 = subst (λ (n : ℕ). n < 2 ^ 64) c.faults-after.ensures c.faults-after.type_inv in
-    sound_unflushed g.S.Store g.C.UnitCipher base h caller number _ c.sync.new.self c.in-Err.ensures.size c.in-Err.ensures.image
+    sound_unflushed g.S.Store g.C.UnitCipher base h caller number 0 0 _ c.sync.new.self c.in-Err.ensures.size c.in-Err.ensures.image
     c.in-Err.ensures.cause.later _
     (mark_of_call (g.S.Store.faults c.self.inside.disk) (g.S.Store.faults c.sync.new.self) _ _ c.faults-before.ensures c.faults-after.ensures
     c.in-Err.ensures.cause.later fits (c.in-Err.ensures.cause.rose refl))
