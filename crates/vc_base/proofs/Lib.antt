@@ -12,6 +12,8 @@ pub mod Bytes
 pub mod LongRemainders
 -- integers of 32 and 64 bits and their bytes
 pub mod Words
+-- lists of four words, and the blocks that spell them
+pub mod FourWords
 -- two functions that agree at each number below a limit, by computing
 pub mod EachNumber
 -- numbers by their bits, and by a test
