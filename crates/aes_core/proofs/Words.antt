@@ -15,7 +15,7 @@ use Rattle.aes_core.specs.Laws.States.{four}
 use Rattle.vc_base.proofs.Bytes.{AreBytes, is_bytes, AreBytes-cons, AreBytes-nil}
 use Rattle.vc_base.proofs.Chunks.{piece-take}
 
--- ---- the exclusive or of words
+-- ---- the XOR of words
 
 pub xor_four : (s t : List ℕ) → length s ≡ 4 → length t ≡ 4
     → bit_xor (get_or s 0 0) (get_or t 0 0) ∷ bit_xor (get_or s 1 0) (get_or t 1 0)

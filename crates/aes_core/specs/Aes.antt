@@ -28,7 +28,7 @@ inverse b = number_below 256 (λ c. mul b c == 1)
 abbrev pub bit : ℕ → ℕ → ℕ
 bit b i = b / 2 ^ (i % 8) % 2
 
--- Bit i of what the affine transformation makes of b: the exclusive or of five bits of b and one of the
+-- Bit i of what the affine transformation makes of b: the XOR of five bits of b and one of the
 -- constant. Of bits it is the sum modulo 2.
 abbrev pub affine_bit : ℕ → ℕ → ℕ
 affine_bit b i = (bit b i + bit b (i + 4) + bit b (i + 5) + bit b (i + 6) + bit b (i + 7) + bit 0x63 i) % 2

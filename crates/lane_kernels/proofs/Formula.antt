@@ -4,18 +4,19 @@
 -- it gives on the state of that lane. Without shifts, bit i of its value is a Boolean function of
 -- nibble i, so it is enough to compute it at the 16 nibbles. `Boxes` and `Mixing` have the formulas
 -- of the code, step by step.
-use Rattle.std.proofs.Common.{◌≡◌, ◌<◌, ◌≤◌, ◌+◌, ◌-◌, ◌*◌, ◌/◌, ◌%◌, ◌^◌, min, max, Bool, true, false, ◌&&◌, List, [], ◌∷◌, ℕ, zero, suc, map, length, get_or, slice_index, slice_index_or, replicate, refl, sym, ap, ap₂, ◌∙◌, subst, arith, bit_xor, bit_and, bit_or, w32, inl, inr}
+use Rattle.std.proofs.Common.{◌≡◌, ◌<◌, ◌+◌, ◌-◌, ◌*◌, ◌/◌, ◌%◌, ◌^◌, min, max, Bool, true, false, ◌&&◌, List, [], ◌∷◌, ℕ, map, slice_index, slice_index_or, replicate, refl, sym, ap, ap₂, ◌∙◌, arith, bit_xor, bit_and, bit_or, w32}
 use Rattle.std.specs.Int.{bit_at, bit_not}
 use Rattle.std.specs.Int.Bits.{and_lt}
 use Rattle.std.specs.Simd.Lanes.{zip2}
 use Rattle.std.proofs.lemmas.Nat.{or_lt, xor_lt}
 use Rattle.std.proofs.lemmas.Nat.Bits.{bit_at-lt, bit_at_and, bit_at_or, bit_at_xor, bit_at_not}
 use Rattle.std.proofs.Math.Nat.{div-le_self}
-use Rattle.lane_kernels.specs.SerpentRounds.{AreWords, nibble, substituted}
+use Rattle.vc_base.specs.Words.{AreWords}
+use Rattle.lane_kernels.specs.SerpentRounds.{nibble, substituted}
 use Rattle.lane_kernels.specs.Laws.Lanes.{lane, AreLanes, InEachLane}
 use Rattle.vc_base.proofs.EachNumber.{agree_below, agree_at, both_of}
 use Rattle.lane_kernels.proofs.Nibbles.{of_four, HasBits, bits_of_nibble}
-use Rattle.lane_kernels.proofs.States.{are_four}
+use Rattle.vc_base.proofs.FourWords.{are_four}
 use Rattle.lane_kernels.proofs.Substituted.{nibble-below, nibble-bits, same_state}
 use Rattle.lane_kernels.proofs.LaneByLane.{Mapped, mapped, zipped, zipped_splat, lane-words, words_from_lanes}
 

@@ -2,16 +2,17 @@
 --
 -- An operation on vectors gives in each lane what it gives on the words of that lane. Four vectors
 -- are eight states if each lane is one.
-use Rattle.std.proofs.Common.{◌≡◌, ◌<◌, ◌≤◌, ◌^◌, List, [], ◌∷◌, ℕ, zero, suc, map, length, get_or, slice_index, slice_index_or, replicate, refl, sym, ap, ap₂, ◌∙◌, subst, arith, inl, inr}
+use Rattle.std.proofs.Common.{◌≡◌, ◌<◌, ◌^◌, List, [], ◌∷◌, ℕ, zero, suc, map, length, get_or, slice_index, slice_index_or, replicate, refl, sym, ap, ap₂, ◌∙◌, subst, arith, inl, inr}
 use Rattle.std.specs.Int.Bits.{bit_xor}
 use Rattle.std.specs.Simd.Lanes.{zip2}
 use Rattle.std.proofs.lemmas.Nat.{xor_lt}
 use Rattle.std.proofs.lemmas.Bool.{cases_lt}
 use Rattle.std.proofs.lemmas.List.{get_or_past}
 use Rattle.std.proofs.lemmas.Simd.{length-zip2, get_or-zip2, length-replicate, get_or-replicate}
-use Rattle.lane_kernels.specs.SerpentRounds.{AreWords, add_words}
+use Rattle.vc_base.specs.Words.{AreWords}
+use Rattle.lane_kernels.specs.SerpentRounds.{add_words}
 use Rattle.lane_kernels.specs.Laws.Lanes.{lane, AreLanes, InEachLane}
-use Rattle.lane_kernels.proofs.States.{are_four}
+use Rattle.vc_base.proofs.FourWords.{are_four}
 
 -- eight words, of which that of lane j is f j
 pub record Mapped (f : ℕ → ℕ) (xs : List ℕ) : Type 0 where

@@ -1,10 +1,8 @@
 -- nibbles by their four bits
 pub mod Nibbles
--- lists of four words
-pub mod States
 -- boxes on states
 pub mod Substituted
--- blocks and the states that they spell
+-- what the cipher makes is blocks
 pub mod Blocks
 -- words, as the code reads and writes them
 pub mod WordByWord

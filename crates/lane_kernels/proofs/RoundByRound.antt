@@ -1,7 +1,8 @@
 -- The rounds, one after the other, as the code counts them. Boxes are counted modulo 8, so the code
 -- names box k, and the definition has the round's number.
 use Rattle.std.proofs.Common.{◌≡◌, ◌-◌, ◌%◌, List, ℕ, suc, refl, sym, ap, ap₂, ◌∙◌, subst}
-use Rattle.lane_kernels.specs.SerpentRounds.{entry, inverse_entry, substituted, linear, inverse_linear, state, block, add_key, rounds, cipher, inverse_rounds, inverse_cipher}
+use Rattle.vc_base.specs.Words.{words_of, block_of}
+use Rattle.lane_kernels.specs.SerpentRounds.{entry, inverse_entry, substituted, linear, inverse_linear, add_key, rounds, cipher, inverse_rounds, inverse_cipher}
 use Rattle.lane_kernels.proofs.Substituted.{entry_modulo, inverse_entry_modulo}
 
 pub none : (ks : List (List ℕ)) (start x : List ℕ) → x ≡ start → x ≡ rounds ks start 0
@@ -28,10 +29,10 @@ one_more ks start n m k x keyed boxed mixed next same is_keyed is_boxed is_mixed
 
 pub the_end : (ks : List (List ℕ)) (b x keyed boxed last : List ℕ) → keyed ≡ add_key ks 31 x → boxed
     ≡ substituted (entry 7) keyed
-    → last ≡ add_key ks 32 boxed → x ≡ rounds ks (state b) 31 → block last ≡ cipher ks b
+    → last ≡ add_key ks 32 boxed → x ≡ rounds ks (words_of b) 31 → block_of last ≡ cipher ks b
 unfolding cipher
 the_end ks b x keyed boxed last is_keyed is_boxed is_last so_far =
-    ap block
+    ap block_of
     (is_last ∙ ap (add_key ks 32)
     (is_boxed ∙ ap₂ substituted (entry_modulo 7 31 refl) (is_keyed ∙ ap (add_key ks 31) so_far)))
 
@@ -66,7 +67,7 @@ one_more_undone ks end r n m k x unmixed boxed keyed next number same is_unmixed
     (is_unmixed ∙ ap inverse_linear so_far))
     ∙ inverse_round_after ks end r n m next number
 
-pub the_start : (ks : List (List ℕ)) (b x : List ℕ) → x ≡ inverse_rounds ks (state b) 31 → block x
+pub the_start : (ks : List (List ℕ)) (b x : List ℕ) → x ≡ inverse_rounds ks (words_of b) 31 → block_of x
     ≡ inverse_cipher ks b
 unfolding inverse_cipher
-the_start ks b x is = ap block is
+the_start ks b x is = ap block_of is

@@ -5,12 +5,13 @@
 use Rattle.std.proofs.Common.{◌≡◌, ◌<◌, ◌+◌, ◌*◌, ◌/◌, ◌%◌, ◌^◌, eqb, List, [], ◌∷◌, ℕ, true, slice_index, refl, sym, ap, ap₂, ◌∙◌, subst, arith}
 use Rattle.std.specs.Int.{bit_at}
 use Rattle.std.proofs.lemmas.Nat.Bits.{bit_at-lt}
-use Rattle.lane_kernels.specs.SerpentRounds.{AreWords, entries, entry, inverse_entry, nibble, substituted}
+use Rattle.vc_base.specs.Words.{AreWords}
+use Rattle.lane_kernels.specs.SerpentRounds.{entries, entry, inverse_entry, nibble, substituted}
 use Rattle.vc_base.specs.Bits.{of_bits, number_below}
 use Rattle.vc_base.proofs.EachNumber.{agree_below, agree_at}
 use Rattle.vc_base.proofs.Bits.{AreBits, of_bits-below, bit_at-of_bits, of_bits-ext, own_bits}
 use Rattle.lane_kernels.proofs.Nibbles.{nibble_of_bits, HasBits, bits_of_nibble, of_four-below}
-use Rattle.lane_kernels.proofs.States.{four_of, four, are_four}
+use Rattle.vc_base.proofs.FourWords.{four_of, four, are_four}
 
 -- bit i of word j of the result
 abbrev placed : (ℕ → ℕ) → List ℕ → ℕ → ℕ → ℕ

@@ -6,24 +6,17 @@
 -- a state the 4 words that they spell. Boxes are counted modulo 8. There are 33 round keys, each of
 -- 4 words.
 --
--- AreWords n xs                    xs are n words
 -- entry k n, inverse_entry k n     what S-box k makes of the nibble n; the nibble it makes n of
 -- nibble x i                       the bits of place i of the four words of the state x
 -- substituted f x                  the state whose nibbles are what f makes of those of x
 -- linear, inverse_linear           the linear transformation and its inverse
--- state b, block x                 the state that a block spells; the block that spells a state
 -- add_key ks i x                   the state x with round key i of ks added
 -- cipher ks b                      what the block b becomes under the round keys ks
 -- inverse_cipher ks b              the block that it came from
-use Rattle.std.specs.Prelude.{◌≡◌, ◌<◌, ℕ, zero, suc, ◌+◌, ◌-◌, ◌*◌, ◌%◌, ◌^◌, ◌==◌, List, [], ◌∷◌, ◌++◌, length, slice_index, slice_index_or, bit_xor}
+use Rattle.std.specs.Prelude.{ℕ, zero, suc, ◌+◌, ◌-◌, ◌*◌, ◌%◌, ◌^◌, ◌==◌, List, [], ◌∷◌, slice_index, slice_index_or, bit_xor}
 use Rattle.std.specs.Int.{w32, bit_at, rotate_left, rotate_right}
 use Rattle.vc_base.specs.Bits.{of_bits, number_below}
-use Rattle.vc_base.specs.Bytes.{from_bytes, to_bytes, piece}
-
--- xs are n words
-pub record AreWords (n : ℕ) (xs : List ℕ) : Type 0 where
-  pub count : length xs ≡ n
-  pub each : (i : ℕ) → slice_index xs i < 2 ^ 32
+use Rattle.vc_base.specs.Words.{words_of, block_of}
 
 -- ---- the S-boxes
 
@@ -96,20 +89,6 @@ inverse_linear x =
     rotate_right w32 a0 13 ∷ xor_three a1 a0 a2
     ∷ rotate_right w32 a2 3 ∷ xor_three a3 a2 (shifted a0 3) ∷ []
 
--- ---- words and bytes
-
--- word j of a list of bytes
-abbrev pub word : List ℕ → ℕ → ℕ
-word bs j = from_bytes (piece 4 j bs)
-
-unfoldable pub state : List ℕ → List ℕ
-state b = word b 0 ∷ word b 1 ∷ word b 2 ∷ word b 3 ∷ []
-
-unfoldable pub block : List ℕ → List ℕ
-block x =
-    to_bytes 4 (slice_index x 0) ++ to_bytes 4 (slice_index x 1)
-    ++ to_bytes 4 (slice_index x 2) ++ to_bytes 4 (slice_index x 3)
-
 -- ---- the cipher, under the round keys ks
 
 -- four words, added to a state word by word
@@ -130,8 +109,8 @@ rounds ks x (suc n) = linear (substituted (entry n) (add_key ks n (rounds ks x n
 -- the last round adds a second key in place of the linear transformation
 unfoldable pub cipher : List (List ℕ) → List ℕ → List ℕ
 cipher ks b =
-    let last : List ℕ = substituted (entry 31) (add_key ks 31 (rounds ks (state b) 31)) in
-    block (add_key ks 32 last)
+    let last : List ℕ = substituted (entry 31) (add_key ks 31 (rounds ks (words_of b) 31)) in
+    block_of (add_key ks 32 last)
 
 -- ---- decryption, under the round keys ks
 
@@ -143,4 +122,4 @@ inverse_rounds ks x (suc n) =
     add_key ks (30 - n) (substituted (inverse_entry (30 - n)) boxed)
 
 unfoldable pub inverse_cipher : List (List ℕ) → List ℕ → List ℕ
-inverse_cipher ks b = block (inverse_rounds ks (state b) 31)
+inverse_cipher ks b = block_of (inverse_rounds ks (words_of b) 31)

@@ -1,7 +1,7 @@
 //! Eight blocks as eight states side by side, and back.
 ghost use Rattle.std.specs.Prelude.{◌≡◌, ◌<◌, ℕ, length};
 ghost use Rattle.vc_base.specs.Bytes.{joined, piece};
-ghost use Rattle.lane_kernels.specs.SerpentRounds.{state, block};
+ghost use Rattle.vc_base.specs.Words.{words_of, block_of};
 ghost use Rattle.lane_kernels.specs.Laws.Lanes.{AreLanes, lane};
 
 use crate::words::{bytes, words};
@@ -12,7 +12,7 @@ use std::simd::prelude::*;
 pub fn gather(group: &[u8]) -> [u32x8; 4]
     requires { length group.now ≡ 128 }
     ensures lanes { AreLanes result }
-    ensures states { (j : ℕ) → j < 8 → lane j result ≡ state (piece 16 j group.now) }
+    ensures states { (j : ℕ) → j < 8 → lane j result ≡ words_of (piece 16 j group.now) }
 {
     let mut a = [0; 8];
     let mut b = [0; 8];
@@ -39,7 +39,7 @@ pub fn gather(group: &[u8]) -> [u32x8; 4]
 #[inline(always)]
 pub fn scatter(x: [u32x8; 4], group: &mut [u8])
     requires { length group.old ≡ 128 }
-    ensures { group.new ≡ joined (λ j. block (lane j x)) 8 }
+    ensures { group.new ≡ joined (λ j. block_of (lane j x)) 8 }
 {
     let [a, b, c, d] = x;
     let (a, b, c, d) = (a.to_array(), b.to_array(), c.to_array(), d.to_array());

@@ -1,11 +1,11 @@
 //! Blocks as states: four words, each of four bytes with the lowest first.
 ghost use Rattle.std.specs.Prelude.{◌≡◌};
-ghost use Rattle.lane_kernels.specs.SerpentRounds.{state, block};
+ghost use Rattle.vc_base.specs.Words.{words_of, block_of};
 
 /// The state that a block spells.
 #[inline(always)]
 pub fn words(bytes: [u8; 16]) -> [u32; 4]
-    ensures { result ≡ state bytes }
+    ensures { result ≡ words_of bytes }
 {
     let [a, b, c, d, e, f, g, h, i, j, k, l, m, n, o, p] = bytes;
     [
@@ -19,7 +19,7 @@ pub fn words(bytes: [u8; 16]) -> [u32; 4]
 /// The block that spells a state.
 #[inline(always)]
 pub fn bytes(words: [u32; 4]) -> [u8; 16]
-    ensures { result ≡ block words }
+    ensures { result ≡ block_of words }
 {
     let [a, b, c, d] = words[0].to_le_bytes();
     let [e, f, g, h] = words[1].to_le_bytes();

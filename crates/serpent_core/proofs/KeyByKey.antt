@@ -7,8 +7,9 @@ use Rattle.std.proofs.Math.Seq.{take-append_seam, take-suc-set}
 use Rattle.vc_base.specs.Bytes.{from_bytes, piece, joined}
 use Rattle.vc_base.proofs.Pieces.{length-piece, joined_more}
 use Rattle.vc_base.proofs.Words.{from_le_bytes_4}
-use Rattle.lane_kernels.specs.SerpentRounds.{entry, substituted, word, xor_three}
-use Rattle.lane_kernels.proofs.States.{four}
+use Rattle.vc_base.specs.Words.{word_of}
+use Rattle.lane_kernels.specs.SerpentRounds.{entry, substituted, xor_three}
+use Rattle.vc_base.proofs.FourWords.{four}
 use Rattle.lane_kernels.proofs.Substituted.{substituted-words}
 use Rattle.serpent_core.specs.Serpent.{golden, next_prekey, prekeys, round_key, round_keys}
 use Rattle.serpent_core.specs.Laws.Undone.{AreRoundKeys}
@@ -30,7 +31,7 @@ piece_of_four ks r inside =
 pub key_word_is : (key : List ℕ) (i w : ℕ) → 4 * i + 4 ≤ length key
     → w ≡ from_le_bytes w32 (get_or key (4 * i) 0 ∷ get_or key (4 * i + 1) 0
     ∷ get_or key (4 * i + 2) 0 ∷ get_or key (4 * i + 3) 0 ∷ [])
-    → w ≡ word key i
+    → w ≡ word_of key i
 key_word_is key i w inside is =
     is ∙ from_le_bytes_4 _ refl ∙ ap from_bytes (sym (piece_of_four key i inside))
 

@@ -13,7 +13,8 @@
 use Rattle.std.specs.Prelude.{ℕ, zero, suc, ◌+◌, ◌-◌, List, [], ◌∷◌, ◌++◌, drop, slice_index, bit_xor}
 use Rattle.std.specs.Int.{w32, rotate_left}
 use Rattle.vc_base.specs.Bytes.{piece, joined}
-use Rattle.lane_kernels.specs.SerpentRounds.{entry, substituted, xor_three, word, cipher, inverse_cipher}
+use Rattle.vc_base.specs.Words.{word_of}
+use Rattle.lane_kernels.specs.SerpentRounds.{entry, substituted, xor_three, cipher, inverse_cipher}
 
 -- ---- the key schedule
 
@@ -30,8 +31,8 @@ next_prekey w i =
 
 unfoldable pub prekeys : List ℕ → ℕ → List ℕ
 prekeys key zero =
-    word key 0 ∷ word key 1 ∷ word key 2 ∷ word key 3
-    ∷ word key 4 ∷ word key 5 ∷ word key 6 ∷ word key 7 ∷ []
+    word_of key 0 ∷ word_of key 1 ∷ word_of key 2 ∷ word_of key 3
+    ∷ word_of key 4 ∷ word_of key 5 ∷ word_of key 6 ∷ word_of key 7 ∷ []
 prekeys key (suc i) = prekeys key i ++ next_prekey (prekeys key i) i ∷ []
 
 -- Round key i, for i from 0 to 32: S-box 3 - i of w_4i to w_(4i + 3). Modulo 8, 35 - i is 3 - i.

@@ -2,7 +2,8 @@
 //! the boxes.
 ghost use Rattle.std.specs.Prelude.{◌≡◌, ◌<◌, ◌-◌, drop};
 ghost use Rattle.vc_base.specs.Bytes.{piece};
-ghost use Rattle.lane_kernels.specs.SerpentRounds.{entry, substituted, word};
+ghost use Rattle.vc_base.specs.Words.{word_of};
+ghost use Rattle.lane_kernels.specs.SerpentRounds.{entry, substituted};
 ghost use Rattle.serpent_core.specs.Serpent.{next_prekey, prekeys, round_keys};
 
 use lane_kernels::{SerpentKeys, serpent_box};
@@ -52,7 +53,7 @@ fn key_words(key: &[u8; 32]) -> [u32; 8]
 
 fn key_word(key: &[u8; 32], i: usize) -> u32
     requires { i < 8 }
-    ensures { result ≡ word key.now i }
+    ensures { result ≡ word_of key.now i }
 {
     u32::from_le_bytes([key[4 * i], key[4 * i + 1], key[4 * i + 2], key[4 * i + 3]])
 }

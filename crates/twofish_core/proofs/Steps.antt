@@ -1,6 +1,7 @@
 -- Sums of words and the rounds, as the code goes through them.
 use Rattle.std.proofs.Common.{◌≡◌, ◌+◌, ◌*◌, ◌-◌, ◌%◌, ◌^◌, List, ℕ, suc, refl, ap, ◌∙◌, subst, arith}
-use Rattle.twofish_core.specs.Twofish.{feistel, inverse_feistel, rounds, inverse_rounds, words_of, block_of, whitened, exchanged, cipher, inverse_cipher}
+use Rattle.vc_base.specs.Words.{words_of, block_of}
+use Rattle.twofish_core.specs.Twofish.{feistel, inverse_feistel, rounds, inverse_rounds, whitened, exchanged, cipher, inverse_cipher}
 
 -- ---- sums modulo 2^32
 

@@ -5,7 +5,6 @@
 --
 -- q0 x, q1 x          the two fixed permutations of a byte
 -- h x l               the function h of a word x under a list l of four words
--- word_of key i       word M_i of the key
 -- key_words key       S_0 to S_3, on which g rests
 -- g_under s x         the function g under those words s, of a word x
 -- round_keys key      the 40 words K_0 to K_39
@@ -13,8 +12,9 @@
 -- cipher g k b        what the block b becomes under them
 -- enciphered key b    what the block b becomes under a key of 32 bytes
 -- deciphered key b    the block that it came from
-use Rattle.std.specs.Prelude.{ℕ, zero, suc, ◌+◌, ◌-◌, ◌*◌, ◌/◌, ◌%◌, ◌^◌, List, [], ◌∷◌, ◌++◌, map, slice_index, bit_xor}
+use Rattle.std.specs.Prelude.{ℕ, zero, suc, ◌+◌, ◌-◌, ◌*◌, ◌/◌, ◌%◌, ◌^◌, List, [], ◌∷◌, map, slice_index, bit_xor}
 use Rattle.std.specs.Int.{w32, rotate_left, rotate_right}
+use Rattle.vc_base.specs.Words.{word_of, words_of, block_of}
 use Rattle.vc_base.specs.Bytes.{xor_bytes, from_bytes, to_bytes, piece, joined}
 use Rattle.vc_base.specs.Polynomial.{product}
 
@@ -123,11 +123,7 @@ h x l =
 
 -- ---- the key schedule (4.3)
 
--- word M_i of the key
-abbrev pub word_of : List ℕ → ℕ → ℕ
-word_of key i = from_bytes (piece 4 i key)
-
--- M_e and M_o: the words of even and of odd number
+-- M_e and M_o: the words M_i of the key of even and of odd number i
 abbrev pub even_words : List ℕ → List ℕ
 even_words key = word_of key 0 ∷ word_of key 2 ∷ word_of key 4 ∷ word_of key 6 ∷ []
 
@@ -205,15 +201,6 @@ inverse_rounds g k s zero = s
 inverse_rounds g k s (suc n) = inverse_feistel g k (15 - n) (inverse_rounds g k s n)
 
 -- ---- whole blocks (4)
-
--- the four words of a block, and the block of four words
-unfoldable pub words_of : List ℕ → List ℕ
-words_of b = word_of b 0 ∷ word_of b 1 ∷ word_of b 2 ∷ word_of b 3 ∷ []
-
-unfoldable pub block_of : List ℕ → List ℕ
-block_of s =
-    to_bytes 4 (slice_index s 0) ++ to_bytes 4 (slice_index s 1)
-    ++ to_bytes 4 (slice_index s 2) ++ to_bytes 4 (slice_index s 3)
 
 -- four words with the words K_j to K_(j + 3)
 unfoldable pub whitened : List ℕ → ℕ → List ℕ → List ℕ

@@ -1,7 +1,7 @@
 //! The cipher and its inverse under a key of 32 bytes.
 ghost use Rattle.std.specs.Prelude.{◌≡◌, List, ℕ};
 ghost use Rattle.twofish_core.specs.Twofish.{g_under, enciphered, deciphered, cipher, inverse_cipher};
-ghost use Rattle.twofish_core.specs.Laws.Words.{IsWords};
+ghost use Rattle.vc_base.specs.Words.{AreWords};
 ghost use Rattle.twofish_core.specs.Laws.Undone.{cipher_is_block, inverse_cipher_is_block, cipher_undone, cipher_done};
 
 use crate::blocks::{block_at, decipher_one, decipher_two, encipher_one, encipher_two};
@@ -15,7 +15,7 @@ pub struct Twofish256 {
     boxes: Boxes,
     // K_0 to K_39.
     keys: [u32; 40],
-    ghost are_words: { IsWords 40 keys },
+    ghost are_words: { AreWords 40 keys },
 }
 
 impl Twofish256 {

@@ -1,6 +1,6 @@
 //! Bytes as words and words as bytes (Twofish, 4).
 ghost use Rattle.std.specs.Prelude.{◌≡◌, ◌+◌, ◌*◌, ◌≤◌, length};
-ghost use Rattle.twofish_core.specs.Twofish.{word_of, words_of, block_of};
+ghost use Rattle.vc_base.specs.Words.{word_of, words_of, block_of};
 
 /// Word i of a list of bytes.
 #[inline(always)]

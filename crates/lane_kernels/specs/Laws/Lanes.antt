@@ -1,6 +1,6 @@
 -- Eight states side by side: vector r has in lane j word r of state j.
 use Rattle.std.specs.Prelude.{◌≡◌, ◌<◌, ℕ, List, [], ◌∷◌, slice_index, slice_index_or}
-use Rattle.lane_kernels.specs.SerpentRounds.{AreWords}
+use Rattle.vc_base.specs.Words.{AreWords}
 
 -- the state in lane j
 abbrev pub lane : ℕ → List (List ℕ) → List ℕ

@@ -7,8 +7,9 @@ use Rattle.std.specs.Int.Bits.{or_shifted_r}
 use Rattle.std.proofs.lemmas.Nat.{or_lt, or_comm, or_shifted, xor_lt, pow-add, mod-pow-add, div-mul-add, mod-mul-add, div-add-mod'}
 use Rattle.std.proofs.Math.Nat.{mul-div_cancel, mul-mod_left, mod-lt, lt_of_mul-lt-mul_right}
 use Rattle.vc_base.proofs.Xor.{xor_cancel, xor_right_comm}
-use Rattle.lane_kernels.specs.SerpentRounds.{AreWords, xor_three, shifted, linear, inverse_linear}
-use Rattle.lane_kernels.proofs.States.{four, are_four}
+use Rattle.vc_base.specs.Words.{AreWords}
+use Rattle.lane_kernels.specs.SerpentRounds.{xor_three, shifted, linear, inverse_linear}
+use Rattle.vc_base.proofs.FourWords.{four, are_four}
 
 -- ---- rotations
 

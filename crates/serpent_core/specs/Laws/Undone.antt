@@ -6,10 +6,11 @@ use Rattle.std.proofs.Common.{◌≡◌, ◌<◌, ◌+◌, ◌-◌, ◌^◌, Lis
 use Rattle.std.proofs.lemmas.Nat.{xor_lt}
 use Rattle.vc_base.specs.Bytes.{IsBytes}
 use Rattle.vc_base.proofs.Xor.{xor_cancel}
-use Rattle.lane_kernels.specs.SerpentRounds.{AreWords, entry, inverse_entry, substituted, linear, inverse_linear, state, block, add_key, rounds, cipher, inverse_rounds, inverse_cipher}
-use Rattle.lane_kernels.proofs.States.{four, are_four}
+use Rattle.vc_base.specs.Words.{AreWords, words_of, block_of}
+use Rattle.lane_kernels.specs.SerpentRounds.{entry, inverse_entry, substituted, linear, inverse_linear, add_key, rounds, cipher, inverse_rounds, inverse_cipher}
+use Rattle.vc_base.proofs.FourWords.{four, are_four}
 use Rattle.lane_kernels.proofs.Substituted.{substituted-words, box_undone, box_done}
-use Rattle.lane_kernels.proofs.Blocks.{state-words, state-block, block-state}
+use Rattle.vc_base.proofs.FourWords.{words_of-words, words_of-block_of, block_of-words_of}
 use Rattle.serpent_core.specs.Laws.Linear.{linear-words, inverse_linear-words, linear_undone, linear_done}
 
 -- round keys are words
@@ -122,13 +123,13 @@ pub cipher_undone : (ks : List (List ℕ)) (b : List ℕ) → AreRoundKeys ks �
     → inverse_cipher ks (cipher ks b) ≡ b
 unfolding cipher inverse_cipher
 cipher_undone ks b keys is =
-    let x : List ℕ = state b in
-    let words : AreWords 4 x = state-words b is in
+    let x : List ℕ = words_of b in
+    let words : AreWords 4 x = words_of-words b is in
     let start : rounds ks x 0 ≡ x = unfold rounds in refl in
-    ap (λ (y : List ℕ). block (inverse_rounds ks y 31))
-    (state-block (ended ks x) (ended-words ks x keys))
-    ∙ ap block (back_through ks x 31 0 keys words refl ∙ start)
-    ∙ block-state b is
+    ap (λ (y : List ℕ). block_of (inverse_rounds ks y 31))
+    (words_of-block_of (ended ks x) (ended-words ks x keys))
+    ∙ ap block_of (back_through ks x 31 0 keys words refl ∙ start)
+    ∙ block_of-words_of b is
 
 -- ---- enciphering goes forth through the rounds of the inverse cipher
 
@@ -157,16 +158,16 @@ pub cipher_done : (ks : List (List ℕ)) (b : List ℕ) → AreRoundKeys ks → 
     ≡ b
 unfolding cipher inverse_cipher
 cipher_done ks b keys is =
-    let x : List ℕ = state b in
-    let words : AreWords 4 x = state-words b is in
+    let x : List ℕ = words_of b in
+    let words : AreWords 4 x = words_of-words b is in
     let first : inverse_rounds ks x 0 ≡ unboxed ks 31 (add_key ks 32 x)
     = unfold inverse_rounds in refl in
-    ap (λ (y : List ℕ). block (ended ks y)) (state-block (inverse_rounds ks x 31)
+    ap (λ (y : List ℕ). block_of (ended ks y)) (words_of-block_of (inverse_rounds ks x 31)
     (inverse_rounds-words ks x 31 keys))
-    ∙ ap (λ (y : List ℕ). block (add_key ks 32 (boxed ks 31 y)))
+    ∙ ap (λ (y : List ℕ). block_of (add_key ks 32 (boxed ks 31 y)))
     (forth_through ks x 31 0 keys refl ∙ first)
-    ∙ ap (λ (y : List ℕ). block (add_key ks 32 y))
+    ∙ ap (λ (y : List ℕ). block_of (add_key ks 32 y))
     (unboxed_done ks 31 (add_key ks 32 x)
     (add_key-words ks 32 x keys words))
-    ∙ ap block (add_key_undone ks 32 x words)
-    ∙ block-state b is
+    ∙ ap block_of (add_key_undone ks 32 x words)
+    ∙ block_of-words_of b is

@@ -6,20 +6,23 @@ use Rattle.std.proofs.Common.{◌≡◌, ◌<◌, ◌+◌, ◌-◌, ◌^◌, Lis
 use Rattle.std.specs.Int.{rotate_left, rotate_right}
 use Rattle.vc_base.specs.Bytes.{IsBytes}
 use Rattle.vc_base.proofs.Xor.{xor_cancel}
-use Rattle.twofish_core.specs.Twofish.{f0, f1, feistel, inverse_feistel, rounds, inverse_rounds, words_of, block_of, whitened, exchanged, cipher, inverse_cipher}
-use Rattle.twofish_core.specs.Laws.Words.{IsWords, four, same_four, are_four, xor_word, left_word, right_word, left_of_right, right_of_left, block_of_is_block, words_of_are_words, words_of_block, block_of_words}
+use Rattle.vc_base.specs.Words.{words_of, block_of}
+use Rattle.twofish_core.specs.Twofish.{f0, f1, feistel, inverse_feistel, rounds, inverse_rounds, whitened, exchanged, cipher, inverse_cipher}
+use Rattle.vc_base.specs.Words.{AreWords}
+use Rattle.vc_base.proofs.FourWords.{four, are_four, block_of-bytes, words_of-words, words_of-block_of, block_of-words_of}
+use Rattle.twofish_core.specs.Laws.Words.{same_four, xor_word, left_word, right_word, left_of_right, right_of_left}
 
 -- ---- the whitening and the exchange
 
-whitened_words : (k : List ℕ) (j : ℕ) (s : List ℕ) → IsWords 40 k → IsWords 4 s
-    → IsWords 4 (whitened k j s)
+whitened_words : (k : List ℕ) (j : ℕ) (s : List ℕ) → AreWords 40 k → AreWords 4 s
+    → AreWords 4 (whitened k j s)
 unfolding whitened
 whitened_words k j s key is =
     are_four _ _ _ _
     (xor_word _ _ (is.each 0) (key.each j)) (xor_word _ _ (is.each 1) (key.each (j + 1)))
     (xor_word _ _ (is.each 2) (key.each (j + 2))) (xor_word _ _ (is.each 3) (key.each (j + 3)))
 
-whitened_undone : (k : List ℕ) (j : ℕ) (s : List ℕ) → IsWords 4 s
+whitened_undone : (k : List ℕ) (j : ℕ) (s : List ℕ) → AreWords 4 s
     → whitened k j (whitened k j s) ≡ s
 unfolding whitened
 whitened_undone k j s is =
@@ -29,11 +32,11 @@ whitened_undone k j s is =
     same_four _ _ _ _ _ _ _ _ (one 0 j) (one 1 (j + 1)) (one 2 (j + 2)) (one 3 (j + 3))
     ∙ sym (four s is.count)
 
-exchanged_words : (s : List ℕ) → IsWords 4 s → IsWords 4 (exchanged s)
+exchanged_words : (s : List ℕ) → AreWords 4 s → AreWords 4 (exchanged s)
 unfolding exchanged
 exchanged_words s is = are_four _ _ _ _ (is.each 2) (is.each 3) (is.each 0) (is.each 1)
 
-exchanged_undone : (s : List ℕ) → IsWords 4 s → exchanged (exchanged s) ≡ s
+exchanged_undone : (s : List ℕ) → AreWords 4 s → exchanged (exchanged s) ≡ s
 unfolding exchanged
 exchanged_undone s is = sym (four s is.count)
 
@@ -47,8 +50,8 @@ f1_word : (f : ℕ → ℕ) (k : List ℕ) (r x y : ℕ) → f1 f k r x y < 2 ^ 
 unfolding f1
 f1_word f k r x y = omega arith
 
-feistel_words : (f : ℕ → ℕ) (k : List ℕ) (r : ℕ) (s : List ℕ) → IsWords 4 s
-    → IsWords 4 (feistel f k r s)
+feistel_words : (f : ℕ → ℕ) (k : List ℕ) (r : ℕ) (s : List ℕ) → AreWords 4 s
+    → AreWords 4 (feistel f k r s)
 unfolding feistel
 feistel_words f k r s is =
     are_four _ _ _ _
@@ -56,8 +59,8 @@ feistel_words f k r s is =
     (xor_word _ _ (left_word _ (is.each 3)) (f1_word f k r _ _))
     (is.each 0) (is.each 1)
 
-inverse_feistel_words : (f : ℕ → ℕ) (k : List ℕ) (r : ℕ) (s : List ℕ) → IsWords 4 s
-    → IsWords 4 (inverse_feistel f k r s)
+inverse_feistel_words : (f : ℕ → ℕ) (k : List ℕ) (r : ℕ) (s : List ℕ) → AreWords 4 s
+    → AreWords 4 (inverse_feistel f k r s)
 unfolding inverse_feistel
 inverse_feistel_words f k r s is =
     are_four _ _ _ _ (is.each 2) (is.each 3)
@@ -76,7 +79,7 @@ rotated_added : (a t : ℕ) → a < 2 ^ 32
 rotated_added a t is_a =
     ap (λ (x : ℕ). rotate_right w32 x 1) (xor_cancel (rotate_left w32 a 1) t) ∙ right_of_left a is_a
 
-feistel_undone : (f : ℕ → ℕ) (k : List ℕ) (r : ℕ) (s : List ℕ) → IsWords 4 s
+feistel_undone : (f : ℕ → ℕ) (k : List ℕ) (r : ℕ) (s : List ℕ) → AreWords 4 s
     → inverse_feistel f k r (feistel f k r s) ≡ s
 unfolding feistel inverse_feistel
 feistel_undone f k r s is =
@@ -87,7 +90,7 @@ feistel_undone f k r s is =
     (rotated_added (slice_index s 3) (f1 f k r x y) (is.each 3))
     ∙ sym (four s is.count)
 
-feistel_done : (f : ℕ → ℕ) (k : List ℕ) (r : ℕ) (s : List ℕ) → IsWords 4 s
+feistel_done : (f : ℕ → ℕ) (k : List ℕ) (r : ℕ) (s : List ℕ) → AreWords 4 s
     → feistel f k r (inverse_feistel f k r s) ≡ s
 unfolding feistel inverse_feistel
 feistel_done f k r s is =
@@ -101,20 +104,20 @@ feistel_done f k r s is =
 
 -- ---- sixteen rounds
 
-rounds_words : (f : ℕ → ℕ) (k s : List ℕ) (n : ℕ) → IsWords 4 s → IsWords 4 (rounds f k s n)
+rounds_words : (f : ℕ → ℕ) (k s : List ℕ) (n : ℕ) → AreWords 4 s → AreWords 4 (rounds f k s n)
 unfolding rounds
 rounds_words f k s zero is = is
 rounds_words f k s (suc n) is = feistel_words f k n (rounds f k s n) (rounds_words f k s n is)
 
-inverse_rounds_words : (f : ℕ → ℕ) (k s : List ℕ) (n : ℕ) → IsWords 4 s
-    → IsWords 4 (inverse_rounds f k s n)
+inverse_rounds_words : (f : ℕ → ℕ) (k s : List ℕ) (n : ℕ) → AreWords 4 s
+    → AreWords 4 (inverse_rounds f k s n)
 unfolding inverse_rounds
 inverse_rounds_words f k s zero is = is
 inverse_rounds_words f k s (suc n) is =
     inverse_feistel_words f k (15 - n) (inverse_rounds f k s n) (inverse_rounds_words f k s n is)
 
 -- back to the words before round m
-back_through : (f : ℕ → ℕ) (k s : List ℕ) (n m : ℕ) → IsWords 4 s → n + m ≡ 16
+back_through : (f : ℕ → ℕ) (k s : List ℕ) (n m : ℕ) → AreWords 4 s → n + m ≡ 16
     → inverse_rounds f k (rounds f k s 16) n ≡ rounds f k s m
 unfolding inverse_rounds
 back_through f k s zero m is sum =
@@ -128,7 +131,7 @@ back_through f k s (suc n) m is sum =
     ∙ feistel_undone f k m (rounds f k s m) (rounds_words f k s m is)
 
 -- forth through the rounds of the inverse cipher
-forth_through : (f : ℕ → ℕ) (k s : List ℕ) (n m : ℕ) → IsWords 4 s → n + m ≡ 16
+forth_through : (f : ℕ → ℕ) (k s : List ℕ) (n m : ℕ) → AreWords 4 s → n + m ≡ 16
     → rounds f k (inverse_rounds f k s 16) n ≡ inverse_rounds f k s m
 unfolding rounds
 forth_through f k s zero m is sum =
@@ -146,33 +149,33 @@ forth_through f k s (suc n) m is sum =
 
 pub cipher_is_block : (f : ℕ → ℕ) (k b : List ℕ) → IsBytes 16 (cipher f k b)
 unfolding cipher
-cipher_is_block f k b = block_of_is_block _
+cipher_is_block f k b = block_of-bytes _
 
 pub inverse_cipher_is_block : (f : ℕ → ℕ) (k b : List ℕ) → IsBytes 16 (inverse_cipher f k b)
 unfolding inverse_cipher
-inverse_cipher_is_block f k b = block_of_is_block _
+inverse_cipher_is_block f k b = block_of-bytes _
 
 -- four words with K_j to K_(j + 3), written as a block, read again and with the same words again
-unwhitened : (k : List ℕ) (j : ℕ) (s : List ℕ) → IsWords 40 k → IsWords 4 s
+unwhitened : (k : List ℕ) (j : ℕ) (s : List ℕ) → AreWords 40 k → AreWords 4 s
     → whitened k j (words_of (block_of (whitened k j s))) ≡ s
 unwhitened k j s key is =
-    ap (whitened k j) (words_of_block (whitened k j s) (whitened_words k j s key is))
+    ap (whitened k j) (words_of-block_of (whitened k j s) (whitened_words k j s key is))
     ∙ whitened_undone k j s is
 
-rewritten : (k : List ℕ) (j : ℕ) (b : List ℕ) → IsWords 40 k → IsBytes 16 b
+rewritten : (k : List ℕ) (j : ℕ) (b : List ℕ) → AreWords 40 k → IsBytes 16 b
     → block_of (whitened k j (whitened k j (words_of b))) ≡ b
 rewritten k j b key is =
-    ap block_of (whitened_undone k j (words_of b) (words_of_are_words b is)) ∙ block_of_words b is
+    ap block_of (whitened_undone k j (words_of b) (words_of-words b is)) ∙ block_of-words_of b is
 
-pub cipher_undone : (f : ℕ → ℕ) (k b : List ℕ) → IsWords 40 k → IsBytes 16 b
+pub cipher_undone : (f : ℕ → ℕ) (k b : List ℕ) → AreWords 40 k → IsBytes 16 b
     → inverse_cipher f k (cipher f k b) ≡ b
 unfolding cipher inverse_cipher
 cipher_undone f k b key is =
     let first : List ℕ = whitened k 0 (words_of b) in
-    let are_first : IsWords 4 first
-    = whitened_words k 0 (words_of b) key (words_of_are_words b is) in
+    let are_first : AreWords 4 first
+    = whitened_words k 0 (words_of b) key (words_of-words b is) in
     let last : List ℕ = rounds f k first 16 in
-    let are_last : IsWords 4 last = rounds_words f k first 16 are_first in
+    let are_last : AreWords 4 last = rounds_words f k first 16 are_first in
     let start : exchanged (whitened k 4 (words_of (block_of (whitened k 4 (exchanged last)))))
     ≡ last
     = ap exchanged (unwhitened k 4 (exchanged last) key (exchanged_words last are_last))
@@ -183,15 +186,15 @@ cipher_undone f k b key is =
     (back_through f k first 16 0 are_first refl ∙ none)
     ∙ rewritten k 0 b key is
 
-pub cipher_done : (f : ℕ → ℕ) (k b : List ℕ) → IsWords 40 k → IsBytes 16 b
+pub cipher_done : (f : ℕ → ℕ) (k b : List ℕ) → AreWords 40 k → IsBytes 16 b
     → cipher f k (inverse_cipher f k b) ≡ b
 unfolding cipher inverse_cipher
 cipher_done f k b key is =
     let read : List ℕ = whitened k 4 (words_of b) in
-    let are_read : IsWords 4 read
-    = whitened_words k 4 (words_of b) key (words_of_are_words b is) in
+    let are_read : AreWords 4 read
+    = whitened_words k 4 (words_of b) key (words_of-words b is) in
     let first : List ℕ = exchanged read in
-    let are_first : IsWords 4 first = exchanged_words read are_read in
+    let are_first : AreWords 4 first = exchanged_words read are_read in
     let last : List ℕ = inverse_rounds f k first 16 in
     let start : whitened k 0 (words_of (block_of (whitened k 0 last))) ≡ last
     = unwhitened k 0 last key (inverse_rounds_words f k first 16 are_first) in

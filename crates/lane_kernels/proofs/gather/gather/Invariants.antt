@@ -1,6 +1,6 @@
-use Rattle.std.proofs.Common.{◌≡◌, ◌<◌, ℕ, [], ◌∷◌, length, slice_index}
+use Rattle.std.proofs.Common.{◌≡◌, ◌<◌, ℕ, [], ◌∷◌, length}
 use Rattle.vc_base.specs.Bytes.{piece}
-use Rattle.lane_kernels.specs.SerpentRounds.{state}
+use Rattle.vc_base.specs.Words.{words_of}
 use Rattle.lane_kernels.specs.Laws.Lanes.{lane}
 use Rattle.lane_kernels.proofs.gather.gather.Given as goal
 
@@ -10,5 +10,5 @@ invariant-loop-j l = record {
   long_b : length l.b ≡ 8;
   long_c : length l.c ≡ 8;
   long_d : length l.d ≡ 8;
-  states : (k : ℕ) → k < l.j → lane k (l.a ∷ l.b ∷ l.c ∷ l.d ∷ []) ≡ state (piece 16 k l.group);
+  states : (k : ℕ) → k < l.j → lane k (l.a ∷ l.b ∷ l.c ∷ l.d ∷ []) ≡ words_of (piece 16 k l.group);
 }

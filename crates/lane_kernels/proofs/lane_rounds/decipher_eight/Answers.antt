@@ -1,6 +1,7 @@
-use Rattle.std.proofs.Common.{◌≡◌, ◌+◌, ◌-◌, ◌*◌, ap, ◌∙◌, arith}
+use Rattle.std.proofs.Common.{◌≡◌, ◌-◌, ◌*◌, ap, ◌∙◌, arith}
 use Rattle.vc_base.specs.Bytes.{piece}
-use Rattle.lane_kernels.specs.SerpentRounds.{state, add_key, inverse_rounds, inverse_cipher}
+use Rattle.vc_base.specs.Words.{words_of}
+use Rattle.lane_kernels.specs.SerpentRounds.{add_key, inverse_rounds, inverse_cipher}
 use Rattle.lane_kernels.specs.Laws.Lanes.{lane}
 use Rattle.lane_kernels.proofs.RoundByRound.{last_undone, the_start}
 use Rattle.lane_kernels.proofs.Groups.{eight_written}
@@ -13,7 +14,7 @@ loop-i-init c =
       within = omega arith;
       lanes = c.seven_rounds_undone-x.ensures.lanes;
       undone = λ j below.
-          let end = state (piece 16 j c.args.group.now) in
+          let end = words_of (piece 16 j c.args.group.now) in
           c.seven_rounds_undone-x.ensures.undone j end below
           (last_undone ks end _ _ _
           (c.with_key.ensures.each j below ∙ ap (add_key ks 32) (c.gather.ensures.states j below))
@@ -27,7 +28,7 @@ loop-i-preserved c =
       within = omega arith;
       lanes = c.seven_rounds_undone-x-in-loop-i.ensures.lanes;
       undone = λ j below.
-          let end = state (piece 16 j c.args.group.now) in
+          let end = words_of (piece 16 j c.args.group.now) in
           c.seven_rounds_undone-x-in-loop-i.ensures.undone j end below
           (c.round_undone-y.ensures.undone j end (31 - 8 * i) (24 - 8 * (i - 1)) below (omega arith)
           (omega arith) (c.loop-i.invariant.undone j below));
@@ -42,4 +43,4 @@ returns c =
     (λ j below.
     the_start ks (piece 16 j group) (lane j c.loop-i.x)
     (c.loop-i.invariant.undone j below
-    ∙ ap (inverse_rounds ks (state (piece 16 j group))) through))
+    ∙ ap (inverse_rounds ks (words_of (piece 16 j group))) through))

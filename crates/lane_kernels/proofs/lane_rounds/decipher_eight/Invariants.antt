@@ -1,6 +1,7 @@
 use Rattle.std.proofs.Common.{◌≡◌, ◌<◌, ◌≤◌, ◌*◌, ◌-◌, ℕ}
 use Rattle.vc_base.specs.Bytes.{piece}
-use Rattle.lane_kernels.specs.SerpentRounds.{inverse_rounds, state}
+use Rattle.vc_base.specs.Words.{words_of}
+use Rattle.lane_kernels.specs.SerpentRounds.{inverse_rounds}
 use Rattle.lane_kernels.specs.Laws.Lanes.{AreLanes, lane}
 use Rattle.lane_kernels.proofs.lane_rounds.decipher_eight.Given as goal
 
@@ -9,5 +10,5 @@ invariant-loop-i l = record {
   within : l.i ≤ 3;
   lanes : AreLanes l.x;
   undone : (j : ℕ) → j < 8
-      → lane j l.x ≡ inverse_rounds l.keys.k (state (piece 16 j l.group)) (31 - 8 * l.i);
+      → lane j l.x ≡ inverse_rounds l.keys.k (words_of (piece 16 j l.group)) (31 - 8 * l.i);
 }

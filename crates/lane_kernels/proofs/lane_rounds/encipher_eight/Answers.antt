@@ -1,6 +1,7 @@
 use Rattle.std.proofs.Common.{◌≡◌, ◌+◌, ◌*◌, ap, ◌∙◌, arith}
 use Rattle.vc_base.specs.Bytes.{piece}
-use Rattle.lane_kernels.specs.SerpentRounds.{state, rounds, cipher}
+use Rattle.vc_base.specs.Words.{words_of}
+use Rattle.lane_kernels.specs.SerpentRounds.{rounds, cipher}
 use Rattle.lane_kernels.specs.Laws.Lanes.{lane}
 use Rattle.lane_kernels.proofs.RoundByRound.{none, the_end}
 use Rattle.lane_kernels.proofs.Groups.{eight_written}
@@ -10,7 +11,7 @@ pub loop-i-init : goal.loop-i-init
 loop-i-init c = record {
   lanes = c.gather-x.ensures.lanes;
   done = λ j below.
-      none c.args.keys.now.k (state (piece 16 j c.args.group.now)) (lane j c.gather-x.result)
+      none c.args.keys.now.k (words_of (piece 16 j c.args.group.now)) (lane j c.gather-x.result)
       (c.gather-x.ensures.states j below);
 }
 
@@ -20,7 +21,7 @@ loop-i-preserved c =
     record {
       lanes = c.round-x.ensures.lanes;
       done = λ j below.
-          let start = state (piece 16 j c.args.group.now) in
+          let start = words_of (piece 16 j c.args.group.now) in
           c.round-x.ensures.done j start (8 * (i + 1)) below (omega arith)
           (c.seven_rounds-y.ensures.done j start below (c.loop-i.invariant.done j below));
     }
@@ -32,7 +33,7 @@ returns c =
     let through : 8 * c.loop-i.i ≡ 24 = omega arith in
     eight_written (cipher ks) c.with_key-2.result group _ c.requires c.scatter.ensures
     (λ j below.
-    let start = state (piece 16 j group) in
+    let start = words_of (piece 16 j group) in
     the_end ks (piece 16 j group) (lane j c.seven_rounds-y-2.result) _ _ _
     (c.with_key.ensures.each j below) (c.boxed-last.ensures.each j below)
     (c.with_key-2.ensures.each j below)

@@ -1,4 +1,4 @@
-use Rattle.std.proofs.Common.{◌+◌, ◌-◌, arith}
+use Rattle.std.proofs.Common.{◌+◌, arith}
 use Rattle.lane_kernels.proofs.lane_rounds.seven_rounds.Goals as goal
 
 pub returns-clause-done : goal.returns-clause-done

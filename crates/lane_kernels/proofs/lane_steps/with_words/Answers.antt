@@ -1,5 +1,5 @@
 use Rattle.std.proofs.Common.{arith}
-use Rattle.lane_kernels.proofs.States.{are_words}
+use Rattle.vc_base.proofs.FourWords.{are_words}
 use Rattle.lane_kernels.proofs.LaneByLane.{words_added}
 use Rattle.lane_kernels.proofs.lane_steps.with_words.Goals as goal
 

@@ -1,12 +1,13 @@
-use Rattle.std.proofs.Common.{◌≡◌, ◌+◌, ◌-◌, ◌*◌, ap, ◌∙◌, arith}
-use Rattle.lane_kernels.specs.SerpentRounds.{state, add_key, inverse_rounds}
+use Rattle.std.proofs.Common.{◌≡◌, ◌-◌, ◌*◌, ap, ◌∙◌, arith}
+use Rattle.vc_base.specs.Words.{words_of}
+use Rattle.lane_kernels.specs.SerpentRounds.{add_key, inverse_rounds}
 use Rattle.lane_kernels.proofs.RoundByRound.{last_undone, the_start}
 use Rattle.lane_kernels.proofs.rounds.decipher.Goals as goal
 
 pub loop-i-init : goal.loop-i-init
 loop-i-init c =
     let ks = c.args.keys.now.k in
-    let end = state c.args.block in
+    let end = words_of c.args.block in
     record {
       within = omega arith;
       undone = c.seven_rounds_undone-x.ensures end
@@ -16,7 +17,7 @@ loop-i-init c =
 
 pub loop-i-preserved : goal.loop-i-preserved
 loop-i-preserved c =
-    let end = state c.args.block in
+    let end = words_of c.args.block in
     let i = c.loop-i.i in
     record {
       within = omega arith;
@@ -28,7 +29,7 @@ loop-i-preserved c =
 pub returns : goal.returns
 returns c =
     let ks = c.args.keys.now.k in
-    let end = state c.args.block in
+    let end = words_of c.args.block in
     let through : 31 - 8 * c.loop-i.i ≡ 31 = omega arith in
     c.bytes.ensures
     ∙ the_start ks c.args.block c.loop-i.x

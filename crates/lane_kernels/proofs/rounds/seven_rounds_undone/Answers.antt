@@ -1,4 +1,4 @@
-use Rattle.std.proofs.Common.{◌+◌, ◌-◌, arith}
+use Rattle.std.proofs.Common.{◌-◌, arith}
 use Rattle.lane_kernels.proofs.rounds.seven_rounds_undone.Goals as goal
 
 pub returns : goal.returns

@@ -1,4 +1,3 @@
-use Rattle.std.proofs.Common.{◌≡◌}
 use Rattle.vc_base.specs.Bytes.{in_pieces}
 use Rattle.cipher_base.proofs.Loops.{Done}
 use Rattle.lane_kernels.specs.SerpentRounds.{inverse_cipher}

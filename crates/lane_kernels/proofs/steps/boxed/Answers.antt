@@ -1,5 +1,5 @@
 use Rattle.std.proofs.Common.{arith}
-use Rattle.lane_kernels.proofs.States.{are_words}
+use Rattle.vc_base.proofs.FourWords.{are_words}
 use Rattle.lane_kernels.proofs.Boxes.{s0-is, s1-is, s2-is, s3-is, s4-is, s5-is, s6-is, s7-is}
 use Rattle.lane_kernels.proofs.steps.boxed.Goals as goal
 

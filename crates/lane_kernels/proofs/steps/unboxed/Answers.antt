@@ -1,5 +1,5 @@
 use Rattle.std.proofs.Common.{arith}
-use Rattle.lane_kernels.proofs.States.{are_words}
+use Rattle.vc_base.proofs.FourWords.{are_words}
 use Rattle.lane_kernels.proofs.Boxes.{i0-is, i1-is, i2-is, i3-is, i4-is, i5-is, i6-is, i7-is}
 use Rattle.lane_kernels.proofs.steps.unboxed.Goals as goal
 

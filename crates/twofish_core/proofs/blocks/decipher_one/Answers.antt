@@ -1,5 +1,6 @@
 use Rattle.std.proofs.Common.{◌*◌, ◌-◌, arith}
-use Rattle.twofish_core.specs.Twofish.{g_under, exchanged, whitened, words_of}
+use Rattle.vc_base.specs.Words.{words_of}
+use Rattle.twofish_core.specs.Twofish.{g_under, exchanged, whitened}
 use Rattle.twofish_core.proofs.Steps.{inverse_rounds_none, inverse_rounds_end}
 use Rattle.twofish_core.proofs.blocks.decipher_one.Goals as goal
 

@@ -1,5 +1,6 @@
 use Rattle.std.proofs.Common.{◌≡◌, ◌*◌}
-use Rattle.twofish_core.specs.Twofish.{g_under, rounds, whitened, words_of}
+use Rattle.vc_base.specs.Words.{words_of}
+use Rattle.twofish_core.specs.Twofish.{g_under, rounds, whitened}
 use Rattle.twofish_core.proofs.blocks.encipher_one.Given as goal
 
 abbrev pub invariant-loop-i : goal.invariant-loop-i

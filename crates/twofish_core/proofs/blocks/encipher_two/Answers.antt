@@ -1,5 +1,6 @@
 use Rattle.std.proofs.Common.{◌*◌, ◌+◌, ap, ◌∙◌, arith}
-use Rattle.twofish_core.specs.Twofish.{g_under, whitened, words_of}
+use Rattle.vc_base.specs.Words.{words_of}
+use Rattle.twofish_core.specs.Twofish.{g_under, whitened}
 use Rattle.twofish_core.proofs.Steps.{rounds_none, rounds_end}
 use Rattle.twofish_core.proofs.blocks.encipher_two.Goals as goal
 

@@ -2,7 +2,7 @@ use Rattle.std.proofs.Common.{◌≡◌, ℕ, List, get_or, refl, ◌∙◌, w32
 use Rattle.std.specs.Int.{to_le_bytes}
 use Rattle.vc_base.specs.Bytes.{to_bytes}
 use Rattle.vc_base.proofs.Words.{to_le_bytes_4}
-use Rattle.twofish_core.specs.Twofish.{block_of}
+use Rattle.vc_base.specs.Words.{block_of}
 use Rattle.twofish_core.proofs.words.block_of.Goals as goal
 
 bytes : (xs : List ℕ) (x : ℕ) → xs ≡ to_le_bytes w32 x → xs ≡ to_bytes 4 x

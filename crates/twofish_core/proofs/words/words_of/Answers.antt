@@ -1,4 +1,4 @@
-use Rattle.twofish_core.specs.Twofish.{words_of}
+use Rattle.vc_base.specs.Words.{words_of}
 use Rattle.twofish_core.specs.Laws.Words.{same_four}
 use Rattle.twofish_core.proofs.words.words_of.Goals as goal
 
