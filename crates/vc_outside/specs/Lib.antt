@@ -1,4 +1,4 @@
--- what stores and sinks hold
+-- what stores and sinks hold, and sources have left
 pub mod Told
 -- what a crash may leave
 pub mod Crash
@@ -6,6 +6,8 @@ pub mod Crash
 pub mod Planned
 -- a sink over memory
 pub mod Output
+-- a source over memory
+pub mod Input
 -- what a store over memory records
 pub mod Record
 -- a store over memory

@@ -1,4 +1,4 @@
--- What contracts know of the bytes of stores and sinks. Those over memory have known contents. A file's are
+-- What contracts know of the bytes of stores, sources and sinks. Those over memory have known contents. A file's are
 -- unknown: they are None, and a clause on bytes says nothing.
 --
 -- Both old new P          P holds of the contents before and after if they are known; known contents stay known
@@ -7,6 +7,7 @@
 -- resized n old           the first n bytes of old, and zeros after its end
 -- Grows old new xs        xs were added at the end
 -- GrowsByFront old new xs  a prefix of xs was added at the end
+-- Shrinks old new xs      xs were taken from the start
 use Rattle.std.specs.Prelude.{◌≡◌, ℕ, ◌+◌, ◌-◌, List, ◌++◌, length, take, drop, replicate, Option, Some, None, ⊤}
 
 abbrev pub Both : {A : Type 0} → Option A → Option A → (A → A → Type 0) → Type 0
@@ -30,3 +31,6 @@ Grows old new xs = Both old new (λ a b. b ≡ a ++ xs)
 
 abbrev pub GrowsByFront : Option (List ℕ) → Option (List ℕ) → List ℕ → Type 0
 GrowsByFront old new xs = (n : ℕ) × Grows old new (take n xs)
+
+abbrev pub Shrinks : Option (List ℕ) → Option (List ℕ) → List ℕ → Type 0
+Shrinks old new xs = Both old new (λ a b. a ≡ xs ++ b)

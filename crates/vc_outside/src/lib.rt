@@ -10,16 +10,22 @@
 //! Offsets and lengths are in bytes.
 #![tactic(auto)]
 
+pub use gate::{Gate, HoldGate, NoGate};
 pub use mem_sink::MemSink;
+pub use mem_source::MemSource;
 pub use mem_store::{MemStore, NoMemory};
 pub use sink::{OutError, Sink, SureSink};
+pub use source::{Client, Source, SureSource};
 pub use store::{Failed, Store, SureStore};
 
+pub mod gate;
 mod medium;
 pub mod mem_sink;
+pub mod mem_source;
 pub mod mem_store;
 mod planned;
 mod record;
 mod replay;
 pub mod sink;
+pub mod source;
 pub mod store;
