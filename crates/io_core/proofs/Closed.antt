@@ -26,7 +26,7 @@ use Rattle.sector_model.specs.declared.entry.Event.{Event}
 use Rattle.sector_model.specs.declared.entry.Event.TheVariants.{Done, Lost}
 use Rattle.sector_model.specs.declared.entry.FaultMark.{FaultMark}
 use Rattle.sector_model.proofs.OneMore.{after-push, is_flushed-push, is_frozen-push, IsOrdered-push, IsTold-push, marks_in-push, open_writes-push}
-use Rattle.io_core.specs.Closings.{answer_to, close_entries, data_in, spoilt_of, state_of}
+use Rattle.io_core.specs.Closings.{answer_to, entries_of, data_in, spoilt_of, state_of}
 use Rattle.sector_model.proofs.Overwritten.{whole_units}
 use Rattle.io_core.specs.State.{IsPlaced, IsPlacedWrite, State, write_of}
 use Rattle.io_core.specs.Sound.{Contents, marks_of_parts, marks_pending, plain, Sound, StoredHolds, volume}
@@ -287,7 +287,7 @@ module _ {S C : Type 0} (store : StoreGhosts S) (cipher : CipherGhosts C) (base 
 
     -- the write's entry, by the state of its fragments
     pub sound_answered : (x : PartState) → x ≡ state_of p.parts.items → x ≢ Waiting → IfSome (store.image s.disk) (IsBytes size)
-        → Sound store cipher base (h ++ close_entries store cipher s p (answer_to x p)) t
+        → Sound store cipher base (h ++ entries_of store cipher s p.caller p.number (answer_to x p) (Some p)) t
     sound_answered Waiting is some bytes = absurd (some refl)
     sound_answered Stored is some bytes =
         subst (λ (g : Geometry). Sound store cipher base (h ++ entry p.caller p.number (Done p.first (units_of p.bytes.items / (g.sector / 512))) ∷ []) t)

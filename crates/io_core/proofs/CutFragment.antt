@@ -1,6 +1,7 @@
 -- Fragment k of a write: the part of its data that a deposit stores.
-use Rattle.std.proofs.Common.{◌≡◌, ◌≤◌, ◌<◌, ◌⊎◌, inl, inr, ℕ, ◌+◌, ◌*◌, ◌/◌, ◌%◌, ◌-◌, List, length, take, drop, ap, ◌∙◌, arith, length-drop}
-use Rattle.std.proofs.lemmas.List.{length-take-le}
+use Rattle.std.proofs.Common.{◌≡◌, ◌≤◌, ◌<◌, ◌⊎◌, inl, inr, ℕ, ◌+◌, ◌*◌, ◌/◌, ◌%◌, ◌-◌, List, length, take, drop, sym, ap, ◌∙◌, arith, length-drop}
+use Rattle.std.proofs.lemmas.List.{length-take-le, take_all}
+use Rattle.vc_base.specs.Bytes.{piece}
 use Rattle.sector_model.specs.Array.{units_of}
 
 -- n units of the bytes, from the unit 512 * k on
@@ -34,3 +35,14 @@ cut bytes k to fragment whole some small within ends from is =
         | inr e ↦ inr (omega arith)
       ];
     }
+
+-- it is the k-th piece of 512 units
+pub cut_piece : (bytes : List ℕ) (k to : ℕ) → (to ≡ 262144 * k + 262144) ⊎ (to ≡ length bytes) → to ≤ 262144 * k + 262144
+    → take (to - 262144 * k) (drop (262144 * k) bytes) ≡ piece (512 * 512) k bytes
+cut_piece bytes k to ends small = elim ends [
+  | inl e ↦
+      let size : to - 262144 * k ≡ 262144 = omega arith in
+      ap (λ (n : ℕ). take n (drop (262144 * k) bytes)) size
+  | inr e ↦ take_all (to - 262144 * k) (drop (262144 * k) bytes) (omega (arith, length-drop (262144 * k) bytes))
+      ∙ sym (take_all 262144 (drop (262144 * k) bytes) (omega (arith, length-drop (262144 * k) bytes)))
+]

@@ -13,7 +13,7 @@ use Rattle.io_core.specs.declared.part.PartState.{PartState}
 use Rattle.io_core.specs.declared.part.PartState.TheVariants.{Waiting, Stored, Spoilt}
 use Rattle.io_core.proofs.OneMoreMark.{all_left, all_right, covering-append}
 
-is_named : (caller number : ℕ) (w : Write) → HasName caller number w → has_name caller number w ≡ true
+pub is_named : (caller number : ℕ) (w : Write) → HasName caller number w → has_name caller number w ≡ true
 is_named caller number w named = go (eqb w.caller caller) (eqb w.number number) (elim (eqb_tells w.caller caller) [
   | inl (t, e) ↦ t
   | inr (f, no_) ↦ absurd (no_ named.0)
@@ -26,7 +26,7 @@ is_named caller number w named = go (eqb w.caller caller) (eqb w.number number) 
     go true y p q = q
     go false y p q = p
 
-not_named : (caller number : ℕ) (w : Write) → ¬ HasName caller number w → has_name caller number w ≡ false
+pub not_named : (caller number : ℕ) (w : Write) → ¬ HasName caller number w → has_name caller number w ≡ false
 not_named caller number w other = elim (eqb_tells w.caller caller) [
   | inr (f, no_) ↦ first (eqb w.caller caller) (eqb w.number number) f
   | inl (t, e) ↦ elim (eqb_tells w.number number) [

@@ -42,3 +42,9 @@ pub mod Closed
 pub mod Released
 -- a fetch
 pub mod Fetched
+-- the first pending write of a name
+pub mod Named
+-- a request that passes the volume's end
+pub mod PastTheEnd
+-- a fragment in its place
+pub mod WrittenFragment

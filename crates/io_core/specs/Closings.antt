@@ -17,6 +17,7 @@ use Rattle.sector_model.specs.Plain.{entry}
 use Rattle.sector_model.specs.declared.entry.Entry.{Entry}
 use Rattle.sector_model.specs.declared.entry.Event.TheVariants.{Done, Lost}
 use Rattle.sector_model.specs.declared.entry.FaultMark.{FaultMark}
+use Rattle.io_core.specs.Named.{named}
 use Rattle.io_core.specs.Sound.{plain, volume}
 use Rattle.io_core.specs.State.{State, write_of}
 use Rattle.io_core.specs.declared.answers.Close.{Close}
@@ -76,7 +77,15 @@ module _ {S C : Type 0} (store : StoreGhosts S) (cipher : CipherGhosts C) where
   abbrev pub data_now : State S C → Prepared → List ℕ
   data_now s w = data_in (store.image s.disk) s.cipher s.geometry w
 
-  abbrev pub close_entries : State S C → Prepared → Close → List Entry
-  close_entries s w close.Waiting = []
-  close_entries s w (close.Done bytes) = entry w.caller w.number (Done w.first (sectors_of (volume s) w.bytes.items)) ∷ []
-  close_entries s w (close.Lost m) = entry w.caller w.number (Lost w.first (data_now s w) (spoilt_of w.parts.items)) ∷ []
+  -- what the end of the write adds, if there is one of the name
+  abbrev pub entries_of : State S C → ℕ → ℕ → Close → Option Prepared → List Entry
+  entries_of s caller number close.Waiting found = []
+  entries_of s caller number (close.Done bytes) None = []
+  entries_of s caller number (close.Done bytes) (Some w) =
+      entry caller number (Done w.first (sectors_of (volume s) w.bytes.items)) ∷ []
+  entries_of s caller number (close.Lost m) None = []
+  entries_of s caller number (close.Lost m) (Some w) =
+      entry caller number (Lost w.first (data_now s w) (spoilt_of w.parts.items)) ∷ []
+
+  abbrev pub close_entries : State S C → ℕ → ℕ → Close → List Entry
+  close_entries s caller number answer = entries_of s caller number answer (named caller number s.pending)

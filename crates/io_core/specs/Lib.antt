@@ -4,6 +4,8 @@ pub mod Fragments
 pub mod State
 -- what a state stands for
 pub mod Sound
+-- pending writes by their names
+pub mod Named
 -- what an event adds to the history
 pub mod Entries
 -- what only this crate's own clauses name

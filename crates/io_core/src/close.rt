@@ -23,10 +23,10 @@ impl<S: Store, C: UnitCipher> Core<S, C> {
         ensures same { SameVolume self.old self.new }
         ensures guard { self.new.guard ≡ self.old.guard }
         ensures disk { self.new.disk ≡ self.old.disk }
-        ensures sound { (base : State S C) (h : List Entry) (w : Prepared) → Contains self.old.pending w → HasName caller number (write_of w)
+        ensures sound { (base : State S C) (h : List Entry)
             → Sound ⟦<S as Store>⟧ ⟦<C as UnitCipher>⟧ base h self.old
             → Sound ⟦<S as Store>⟧ ⟦<C as UnitCipher>⟧ base
-            (h ++ close_entries ⟦<S as Store>⟧ ⟦<C as UnitCipher>⟧ self.old w result) self.new }
+            (h ++ close_entries ⟦<S as Store>⟧ ⟦<C as UnitCipher>⟧ self.old caller number result) self.new }
     {
         // A proof needs that known contents are bytes.
         let _ = self.disk.len();

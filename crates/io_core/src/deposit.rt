@@ -1,13 +1,16 @@
 //! Depositing fragments.
-ghost use Rattle.std.specs.Prelude.{◌≡◌, ◌≢◌, ◌↔◌, ◌+◌, ◌≤◌, ◌<◌, ◌++◌, ◌∷◌, [], ℕ, List, Any, Some, length, slice_get};
+ghost use Rattle.std.specs.Prelude.{◌≡◌, ◌≢◌, ◌↔◌, ◌+◌, ◌≤◌, ◌<◌, ◌++◌, ◌∷◌, [], ℕ, List, Any, Some, IfSome, length, slice_get};
 ghost use Rattle.vc_base.specs.Bytes.{in_pieces};
 ghost use Rattle.vc_base.specs.Faults.{HasCause};
+ghost use Rattle.vc_outside.specs.Crash.{Outcomes};
+ghost use Rattle.vc_outside.specs.Told.{Both};
 ghost use Rattle.sector_model.specs.History.{HasName};
 ghost use Rattle.sector_model.specs.declared.entry.Entry.{Entry};
 ghost use Rattle.io_core.specs.Sound.{Sound};
 ghost use Rattle.io_core.specs.State.{SameVolume, State, write_of};
 ghost use Rattle.io_core.specs.declared.part.PartState.TheVariants.{Spoilt, Stored, Waiting};
-ghost use Rattle.io_core.specs.Deposits.{deposit_of, IsDeposited};
+ghost use Rattle.io_core.specs.Deposits.{deposit_of, IsDeposited, IsWritten, SameButFragment};
+ghost use Rattle.io_core.specs.Named.{named};
 ghost use Rattle.sector_model.specs.declared.entry.FaultMark.{FaultMark};
 
 use crate::answers::Deposit;
@@ -44,6 +47,14 @@ impl<S: Store, C: UnitCipher> Core<S, C> {
         ensures spoilt { (mark : FaultMark) → result ≡ Deposit.Spoilt mark
             → IsDeposited caller number index (Spoilt mark) self.old.pending self.new.pending
             × (mark ≡ record { before = S.faults self.old.disk; after = S.faults self.new.disk }) }
+        ensures written { result ≡ Deposit.Stored → IfSome (named caller number self.old.pending) (λ w.
+            Both (S.image self.old.disk) (S.image self.new.disk) (IsWritten ⟦<C as UnitCipher>⟧ self.old w index)) }
+        ensures elsewhere { result ≢ Deposit.Stray → IfSome (named caller number self.old.pending) (λ w.
+            Both (S.image self.old.disk) (S.image self.new.disk) (SameButFragment self.old.geometry w index)) }
+        ensures crash { result ≢ Deposit.Stray → IfSome (named caller number self.old.pending) (λ w.
+            Outcomes S.tells (S.moment self.old.disk) (S.moment self.new.disk) (S.left_since self.old.disk)
+            (S.left_since self.new.disk) (S.may_leave self.old.disk) (S.may_leave self.new.disk) (SameButFragment self.old.geometry w index)) }
+        ensures size { S.size self.new.disk ≡ S.size self.old.disk }
         ensures same { SameVolume self.old self.new }
         ensures guard { self.new.guard ≡ self.old.guard }
         ensures cause { HasCause (S.faults self.old.disk) (S.faults self.new.disk) ((result ≢ Deposit.Stray) × (result ≢ Deposit.Stored)) }

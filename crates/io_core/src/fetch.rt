@@ -35,6 +35,8 @@ impl<S: Store, C: UnitCipher> Core<S, C> {
         ensures pending { self.new.pending ≡ self.old.pending }
         ensures image { S.image self.new.disk ≡ S.image self.old.disk }
         ensures size { S.size self.new.disk ≡ S.size self.old.disk }
+        ensures crash { Outcomes S.tells (S.moment self.old.disk) (S.moment self.new.disk) (S.left_since self.old.disk)
+            (S.left_since self.new.disk) (S.may_leave self.old.disk) (S.may_leave self.new.disk) Stays }
         ensures cause { HasCause (S.faults self.old.disk) (S.faults self.new.disk) ((result ≢ Fetch.Got) × (result ≢ Fetch.Later)) }
         ensures sound { (base : State S C) (h : List Entry) (caller number : ℕ)
             → Sound ⟦<S as Store>⟧ ⟦<C as UnitCipher>⟧ base h self.old

@@ -38,6 +38,7 @@ pub mod part;
 pub mod pending;
 pub mod prepared;
 pub mod seal;
+pub mod standing;
 pub mod state;
 #[cfg(test)]
 mod tests;

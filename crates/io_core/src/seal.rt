@@ -2,7 +2,8 @@
 ghost use Rattle.std.specs.Prelude.{◌≡◌, ◌≢◌, ◌+◌, ◌*◌, ◌/◌, ◌%◌, ◌^◌, ◌<◌, ◌≤◌, ℕ, List, length};
 ghost use Rattle.vc_base.specs.Bytes.{IsBytes, in_pieces, piece};
 ghost use Rattle.vc_base.specs.Faults.{HasCause};
-ghost use Rattle.vc_outside.specs.Told.{Both, SameOutside};
+ghost use Rattle.vc_outside.specs.Told.{Both, SameOutside, written};
+ghost use Rattle.vc_outside.specs.Crash.{Outcomes};
 ghost use Rattle.io_core.specs.Laws.Sealed.{Deciphers, IsOutcome};
 ghost use Rattle.io_core.specs.declared.part.PartState.TheVariants.{Stored};
 
@@ -66,7 +67,11 @@ pub(crate) fn store_fragment<S: Store, C: UnitCipher>(
     ensures outside { Both (S.image disk.old) (S.image disk.new) (SameOutside (512 * first) (length fragment.now)) }
     ensures stored { result ≡ Stored
         → Both (S.image disk.old) (S.image disk.new) (λ _ c. Deciphers (C.deciphered cipher.now) first fragment.now c) }
+    ensures written { result ≡ Stored → Both (S.image disk.old) (S.image disk.new) (λ b c.
+        c ≡ written (512 * first) (in_pieces 512 (λ i u. C.enciphered cipher.now (first + i) u) fragment.now) b) }
     ensures size { S.size disk.new ≡ S.size disk.old }
+    ensures crash { Outcomes S.tells (S.moment disk.old) (S.moment disk.new) (S.left_since disk.old)
+        (S.left_since disk.new) (S.may_leave disk.old) (S.may_leave disk.new) (SameOutside (512 * first) (length fragment.now)) }
     ensures cause { HasCause (S.faults disk.old) (S.faults disk.new) (result ≢ Stored) }
 {
     bytes_are_known(fragment);

@@ -1,7 +1,11 @@
 //! The core's state, as it is made and taken apart.
-ghost use Rattle.std.specs.Prelude.{◌≡◌, ◌+◌, ◌-◌, ◌*◌, ◌/◌, ◌%◌, ◌^◌, ◌<◌, ◌≤◌, ◌↔◌, [], length, false, IfOk, IfErr, IsTrue, IsNone};
-ghost use Rattle.io_core.specs.State.{IsPlaced, volume_of};
-ghost use Rattle.io_core.specs.Sound.{Sound};
+ghost use Rattle.std.specs.Prelude.{◌≡◌, ◌+◌, ◌-◌, ◌*◌, ◌/◌, ◌%◌, ◌^◌, ◌<◌, ◌≤◌, ◌↔◌, ◌++◌, ◌∷◌, [], ℕ, List, length, false, IfOk, IfErr, IsTrue, IsNone};
+ghost use Rattle.io_core.specs.State.{IsPlaced, State, volume_of};
+ghost use Rattle.io_core.specs.Sound.{Sound, volume};
+ghost use Rattle.sector_model.specs.Array.{Fits};
+ghost use Rattle.sector_model.specs.Plain.{entry};
+ghost use Rattle.sector_model.specs.declared.entry.Entry.{Entry};
+ghost use Rattle.sector_model.specs.declared.entry.Event.TheVariants.{Beyond};
 
 use crate::prepared::{NoMemory, Prepared};
 use cipher_base::UnitCipher;
@@ -93,9 +97,13 @@ impl<S: Store, C: UnitCipher> Core<S, C> {
         })
     }
 
-    /// Whether `count` sectors from `first` on are in the volume.
+    /// Whether `count` sectors from `first` on are in the volume. A request that isn't is refused, and the
+    /// history may then say so.
     pub fn fits(&self, first: u64, count: u64) -> bool
-        ensures { IsTrue result ↔ first + count ≤ self.now.geometry.sectors }
+        ensures fits { IsTrue result ↔ Fits (volume self.now) first count }
+        ensures sound { (base : State S C) (h : List Entry) (caller number : ℕ) → result ≡ false
+            → Sound ⟦<S as Store>⟧ ⟦<C as UnitCipher>⟧ base h self.now
+            → Sound ⟦<S as Store>⟧ ⟦<C as UnitCipher>⟧ base (h ++ entry caller number (Beyond first count) ∷ []) self.now }
     {
         first <= self.geometry.sectors && count <= self.geometry.sectors - first
     }

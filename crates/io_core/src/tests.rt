@@ -3,6 +3,9 @@ ghost use Rattle.std.specs.Prelude.{◌≡◌, ◌%◌, Any, IfSome, length, ref
 ghost use Rattle.sector_model.specs.History.{HasName};
 ghost use Rattle.io_core.specs.State.{write_of};
 
+mod scripts;
+mod turned_down;
+
 use crate::{Admit, Close, Core, Deposit, Fetch, Prepared};
 use cipher_base::UnitCipher;
 use sector_model::FaultMark;

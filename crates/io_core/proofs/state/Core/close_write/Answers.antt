@@ -1,11 +1,12 @@
-use Rattle.std.proofs.Common.{rules, ◌≡◌, ◌≢◌, ◌<◌, ℕ, suc, ◌++◌, List, get_or, length, take, drop, refl, sym, ap, subst, ◌∙◌}
+use Rattle.std.proofs.Common.{rules, ◌≡◌, ◌≢◌, ◌<◌, ℕ, suc, ◌++◌, List, Option, Some, get_or, length, take, drop, refl, sym, ap, subst, ◌∙◌}
 use Rattle.std.specs.List.{Contains}
 use Rattle.std.proofs.lemmas.List.{get_or_read}
 use Rattle.range_book.specs.declared.reserved.Reserved.{Reserved}
 use Rattle.vc_layout.specs.declared.geometry.Geometry.{Geometry}
 use Rattle.sector_model.specs.History.{HasName}
-use Rattle.io_core.specs.Closings.{answer_to, close_entries, IsClosed, pending_after, state_of}
+use Rattle.io_core.specs.Closings.{answer_to, close_entries, entries_of, IsClosed, pending_after, state_of}
 use Rattle.io_core.specs.Laws.Invariant.{range_of}
+use Rattle.io_core.specs.Named.{named}
 use Rattle.io_core.specs.Sound.{Sound}
 use Rattle.io_core.specs.State.{IsPlaced, State, volume_of, write_of}
 use Rattle.io_core.specs.declared.answers.Close.{Close}
@@ -16,6 +17,7 @@ use Rattle.io_core.specs.declared.prepared.Prepared.{Prepared}
 use Rattle.io_core.proofs.Closed.{sound_answered}
 use Rattle.io_core.proofs.Elements.{mapped_element}
 use Rattle.io_core.proofs.Found.{the_found}
+use Rattle.io_core.proofs.Named.{found, IsFound}
 use Rattle.io_core.proofs.Released.{core_closed, parted}
 use Rattle.io_core.proofs.state.Core.close_write.Goals as goal
 
@@ -97,7 +99,7 @@ invariant_of-self g c =
     r.0 (r.1.0 ∙ sym here.0, r.1.1 ∙ sym here.1) r.2 c.release.ensures.apart c.release.ensures.spare
 
 pub returns-clause-sound : goal.returns-clause-sound
-returns-clause-sound g c base h w has named sound =
+returns-clause-sound g c base h sound =
     let s : State _ _ = record {
       disk = c.self.inside.disk;
       cipher = c.self.inside.cipher;
@@ -114,21 +116,25 @@ returns-clause-sound g c base h w has named sound =
     let within : c.in-Some.at < length ps = subst (λ (l : List Prepared). c.in-Some.at < length l) c.deref.ensures.value c.in-Some.ensures.bound in
     let here : HasName c.args.caller c.args.number (write_of (get_or ps c.in-Some.at p))
     = subst (λ (l : List Prepared). HasName c.args.caller c.args.number (write_of (get_or l c.in-Some.at p))) c.deref.ensures.value (c.in-Some.ensures.found p) in
-    let has_here : Contains ps w = subst (λ (t : State _ _). Contains t.pending w) (sym c.self.view_is) has in
-    let is_w : p ≡ w = c.remove-write.ensures.value
-    ∙ the_found c.args.caller c.args.number ps c.self.invariant.names (λ x. x ≡ w) c.in-Some.at p within here
-    (has_here.0, w, has_here.1, has_here.2, (named, refl)) in
+    let mine : HasName c.args.caller c.args.number (write_of p)
+    = subst (λ (x : Prepared). HasName c.args.caller c.args.number (write_of x)) (sym c.remove-write.ensures.value) here in
+    let f : IsFound c.args.caller c.args.number ps = found c.args.caller c.args.number ps (c.in-Some.at, p, within, sym c.remove-write.ensures.value, mine) in
+    let is_it : named c.args.caller c.args.number ps ≡ Some p
+    = f.is ∙ ap Some (sym (c.remove-write.ensures.value
+    ∙ the_found c.args.caller c.args.number ps c.self.invariant.names (λ x. x ≡ f.write) c.in-Some.at p within here f.any)) in
     let same : c.index.result.now ≡ p = get_or_read ps c.in-Some.at c.index.result.now within c.index.ensures p ∙ sym c.remove-write.ensures.value in
     let state : c.state_of-state.result ≡ state_of p.parts.items
     = c.state_of-state.ensures ∙ ap (λ (l : List PartState). state_of l) c.deref-2.ensures.value ∙ ap (λ (x : Prepared). state_of x.parts.items) same in
     let placed : IsPlaced (g.S.Store.size base.disk) base.geometry
     = subst (λ (n : ℕ). IsPlaced n base.geometry) was.size_same
     (subst (λ (f : Geometry). IsPlaced (g.S.Store.size c.self.inside.disk) f) was.geometry_same c.self.invariant.placed) in
-    let ended : Sound g.S.Store g.C.UnitCipher base (h ++ close_entries g.S.Store g.C.UnitCipher s p (answer_to c.state_of-state.result p)) (record s { pending = below ++ above })
+    let ended : Sound g.S.Store g.C.UnitCipher base (h ++ entries_of g.S.Store g.C.UnitCipher s p.caller p.number (answer_to c.state_of-state.result p) (Some p)) (record s { pending = below ++ above })
     = sound_answered g.S.Store g.C.UnitCipher base h s was p below above (parted ps c.in-Some.at p within c.remove-write.ensures.value) c.self.invariant.names
     placed (g.S.Store.size c.self.inside.disk) was.size_same (g.met.C.UnitCipher.deciphered_is_unit base.cipher)
     c.state_of-state.result state c.in_default-state.not-Waiting c.len.ensures.bytes in
-    subst (λ (t : State _ _). Sound g.S.Store g.C.UnitCipher base (h ++ close_entries g.S.Store g.C.UnitCipher t w c.answer_to.result) (record s { pending = c.remove-write.new.self.items })) c.self.view_is
-    (subst (λ (l : List Prepared). Sound g.S.Store g.C.UnitCipher base (h ++ close_entries g.S.Store g.C.UnitCipher s w c.answer_to.result) (record s { pending = l })) (sym c.remove-write.ensures.items)
-    (subst (λ (x : Prepared). Sound g.S.Store g.C.UnitCipher base (h ++ close_entries g.S.Store g.C.UnitCipher s x c.answer_to.result) (record s { pending = below ++ above })) is_w
-    (subst (λ (a : Close). Sound g.S.Store g.C.UnitCipher base (h ++ close_entries g.S.Store g.C.UnitCipher s p a) (record s { pending = below ++ above })) (sym c.answer_to.ensures) ended)))
+    subst (λ (t : State _ _). Sound g.S.Store g.C.UnitCipher base (h ++ close_entries g.S.Store g.C.UnitCipher t c.args.caller c.args.number c.answer_to.result) (record s { pending = c.remove-write.new.self.items })) c.self.view_is
+    (subst (λ (l : List Prepared). Sound g.S.Store g.C.UnitCipher base (h ++ close_entries g.S.Store g.C.UnitCipher s c.args.caller c.args.number c.answer_to.result) (record s { pending = l })) (sym c.remove-write.ensures.items)
+    (subst (λ (o : Option Prepared). Sound g.S.Store g.C.UnitCipher base (h ++ entries_of g.S.Store g.C.UnitCipher s c.args.caller c.args.number c.answer_to.result o) (record s { pending = below ++ above })) (sym is_it)
+    (subst (λ (k : ℕ). Sound g.S.Store g.C.UnitCipher base (h ++ entries_of g.S.Store g.C.UnitCipher s k c.args.number c.answer_to.result (Some p)) (record s { pending = below ++ above })) mine.0
+    (subst (λ (k : ℕ). Sound g.S.Store g.C.UnitCipher base (h ++ entries_of g.S.Store g.C.UnitCipher s p.caller k c.answer_to.result (Some p)) (record s { pending = below ++ above })) mine.1
+    (subst (λ (a : Close). Sound g.S.Store g.C.UnitCipher base (h ++ entries_of g.S.Store g.C.UnitCipher s p.caller p.number a (Some p)) (record s { pending = below ++ above })) (sym c.answer_to.ensures) ended)))))
