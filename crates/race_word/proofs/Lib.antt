@@ -1,0 +1,2 @@
+-- each step keeps the rule
+pub mod Steps
