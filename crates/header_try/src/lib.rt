@@ -9,7 +9,7 @@
 #![tactic(auto)]
 
 pub use header_seal::Opened;
-pub use open::open_plain;
+pub use open::{open_plain, slots};
 pub use open_error::OpenError;
 pub use slot::try_slot;
 pub use vc_layout::Kind;

@@ -73,8 +73,8 @@ pub fn open_plain<D: Store>(
     }
 }
 
-// The slots of a kind: the first, and the second if there is one.
-fn slots(kind: Kind) -> (Slot, Option<Slot>)
+/// The slots of a kind: the first, and the second if there is one.
+pub fn slots(kind: Kind) -> (Slot, Option<Slot>)
     ensures { MatchOption result.1 (slots_of kind ≡ result.0 ∷ []) (λ other. slots_of kind ≡ result.0 ∷ other ∷ []) }
 {
     match kind {

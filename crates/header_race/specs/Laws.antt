@@ -1,0 +1,2 @@
+-- derivations, valid numbers, outcomes, and the first of them
+pub mod Race
