@@ -1,14 +1,14 @@
 -- the random stream, drawn in parts
-mod Draws
+pub mod Draws
 -- bytes written over a list
-mod Writes
+pub mod Writes
 -- the fill, part by part
 mod Parts
 -- the image of a formatted container
-mod Images
+pub mod Images
 -- opening a new volume
-mod Opening
+pub mod Opening
 -- from what each step makes to what the image is
-mod Making
+pub mod Making
 -- the image with a hidden volume
-mod HiddenImages
+pub mod HiddenImages

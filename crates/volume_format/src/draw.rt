@@ -25,7 +25,7 @@ pub(crate) fn draw(rng: &mut ChaCha20Rng, bytes: &mut [u8])
 }
 
 /// The next bytes of the stream as a salt.
-pub(crate) fn next_salt(rng: &mut ChaCha20Rng) -> [u8; SALT]
+pub fn next_salt(rng: &mut ChaCha20Rng) -> [u8; SALT]
     ensures salt { result ≡ stream_bytes rng.old 0 64 }
     ensures drawn { rng.new ≡ advanced rng.old 64 }
 {

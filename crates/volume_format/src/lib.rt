@@ -9,11 +9,12 @@
 //! order in which salts and keys are drawn, are this project's own.
 #![tactic(auto)]
 
+pub use draw::next_salt;
 pub use format_error::FormatError;
 pub use hidden::{HiddenSpec, format_hidden};
 pub use outer::{FormatSpec, format_outer};
 
-mod draw;
+pub mod draw;
 mod fill;
 pub mod format_error;
 mod header;
