@@ -1,0 +1,2 @@
+-- what each step on a deque tells
+pub mod Moves
