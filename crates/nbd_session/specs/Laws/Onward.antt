@@ -1,0 +1,43 @@
+-- What a session did so far, and what one request adds.
+--
+-- Onward ..     what is answered of later bytes, after what was taken, written and left so far, is answered of all of them
+-- Answers ..    one request was taken and answered
+-- OnlyEnds s how   bytes that start so have no request, and the session ends so
+-- NoRequest ..  bytes were taken that have no request
+use Rattle.std.specs.Prelude.{◌≡◌, ◌⊎◌, ℕ, ◌+◌, List, ◌++◌, Option, IfSome}
+use Rattle.nbd_wire.specs.Frames.{Frame, frames, Start, over, short, wrong, leaves, asks, start}
+use Rattle.nbd_wire.specs.Replies.{AreAnswered, IsAnswered}
+use Rattle.nbd_wire.specs.declared.end.End.{End}
+use Rattle.nbd_wire.specs.declared.end.End.TheVariants as end
+use Rattle.sector_model.specs.declared.entry.Event.{Event}
+use Rattle.vc_outside.specs.Told.{Grows, Shrinks}
+
+pub record Onward (sector : ℕ) (left later held now : Option (List ℕ)) (es : List Event) (n : ℕ) : Type 0 where
+  pub taken : List ℕ
+  pub written : List ℕ
+  pub input : Shrinks left later taken
+  pub output : Grows held now written
+  pub goes : (bytes : List ℕ) (more : List Event) (k : ℕ) (replies : List ℕ) (how : End) → AreAnswered sector (frames bytes) more k replies how
+      → AreAnswered sector (frames (taken ++ bytes)) (es ++ more) (n + k) (written ++ replies) how
+
+pub record Answers (sector : ℕ) (left later held now : Option (List ℕ)) (es : List Event) : Type 0 where
+  pub frame : Frame
+  pub taken : List ℕ
+  pub written : List ℕ
+  pub input : Shrinks left later taken
+  pub output : Grows held now written
+  pub starts : (rest : List ℕ) → start (taken ++ rest) ≡ asks frame.request frame.payload rest
+  pub answered : IsAnswered sector frame es written
+
+abbrev pub OnlyEnds : Start → End → Type 0
+OnlyEnds over how = (how ≡ end.Done) ⊎ (how ≡ end.ReadFault)
+OnlyEnds short how = (how ≡ end.Cut) ⊎ (how ≡ end.ReadFault)
+OnlyEnds (wrong magic) how = (how ≡ end.BadMagic magic) ⊎ (how ≡ end.ReadFault)
+OnlyEnds leaves how = (how ≡ end.Done) ⊎ (how ≡ end.ReadFault)
+OnlyEnds (asks r payload rest) how = ⊥
+
+pub record NoRequest (left later : Option (List ℕ)) (how : End) : Type 0 where
+  pub taken : List ℕ
+  pub input : Shrinks left later taken
+  pub alone : OnlyEnds (start taken) how
+  pub whole : IfSome left (λ bytes. ¬ (how ≡ end.ReadFault) → OnlyEnds (start bytes) how)

@@ -1,0 +1,148 @@
+//! What a request does with the volume.
+ghost use Rattle.std.specs.Prelude.{◌≡◌, ◌<◌, ◌≤◌, ◌*◌, ◌^◌, false, length, List};
+ghost use Rattle.hist_lock.specs.Known.{view};
+ghost use Rattle.io_queue.specs.Pass.{Call, IsPass, NothingOpen};
+ghost use Rattle.nbd_session.specs.Laws.Outcomes.{data_of, read_outcome, write_outcome};
+ghost use Rattle.nbd_session.specs.Session.{events_of};
+ghost use Rattle.nbd_wire.specs.Replies.{FlushLeaves, ReadLeaves, WriteLeaves};
+ghost use Rattle.sector_model.specs.declared.entry.Entry.{Entry};
+ghost use Rattle.vc_layout.specs.Layout.{IsSectorSize};
+
+use cipher_base::UnitCipher;
+use hist_lock::Pass;
+use io_core::Core;
+use io_queue::{IoError, Volume};
+use nbd_wire::Outcome;
+use std::alloc::Global;
+use std::sync::Wait;
+use std::thread::Threads;
+use vc_outside::{Gate, Store};
+
+// Reads `count` sectors, which are the data of the reply.
+pub(crate) fn read_sectors<R: Threads + Wait + Sync, S: Store, C: UnitCipher + Sync>(
+    rt: &R,
+    volume: &Volume<S, C>,
+    pass: &mut Pass<Core<S, C>>,
+    first: u64,
+    count: u64,
+    out: &mut [u8],
+) -> Outcome
+    requires pass { IsPass volume.now.lock.table.shared.table_id volume.now.geometry volume.now.cipher pass.old.seat }
+    requires open { NothingOpen (view pass.old.seat) }
+    requires sector { IsSectorSize volume.now.geometry.sector }
+    requires some { 0 < length out.old }
+    requires whole { length out.old ≡ volume.now.geometry.sector * count }
+    requires small { length out.old ≤ 2 ^ 25 }
+    requires within { first < 2 ^ 55 }
+    ensures pass { IsPass volume.now.lock.table.shared.table_id volume.now.geometry volume.now.cipher pass.new.seat }
+    ensures open { NothingOpen (view pass.new.seat) }
+    ensures call { (es : List Entry) × Call (view pass.old.seat) (view pass.new.seat) es
+        × ReadLeaves volume.now.geometry.sector first count result (events_of es) (data_of result out.new) }
+{
+    let _ = count;
+    outcome_of(volume.read(rt, pass, first, out))
+}
+
+// Writes `count` sectors, without a flush.
+pub(crate) fn write_sectors<R: Threads + Wait + Sync, S: Store, C: UnitCipher, G: Gate>(
+    rt: &R,
+    alloc: Global,
+    volume: &Volume<S, C>,
+    pass: &mut Pass<Core<S, C>>,
+    gate: &G,
+    first: u64,
+    count: u64,
+    payload: Vec<u8>,
+) -> Outcome
+    requires pass { IsPass volume.now.lock.table.shared.table_id volume.now.geometry volume.now.cipher pass.old.seat }
+    requires open { NothingOpen (view pass.old.seat) }
+    requires sector { IsSectorSize volume.now.geometry.sector }
+    requires some { 0 < length payload.items }
+    requires whole { length payload.items ≡ volume.now.geometry.sector * count }
+    requires small { length payload.items ≤ 2 ^ 25 }
+    requires within { first < 2 ^ 55 }
+    ensures pass { IsPass volume.now.lock.table.shared.table_id volume.now.geometry volume.now.cipher pass.new.seat }
+    ensures open { NothingOpen (view pass.new.seat) }
+    ensures call { (es : List Entry) × Call (view pass.old.seat) (view pass.new.seat) es
+        × WriteLeaves first count false payload.items result (events_of es) }
+{
+    let _ = count;
+    written_outcome(volume.write(rt, alloc, pass, gate, first, payload))
+}
+
+// Writes `count` sectors. With `fua` a flush follows if they are stored.
+pub(crate) fn write_request<R: Threads + Wait + Sync, S: Store, C: UnitCipher, G: Gate>(
+    rt: &R,
+    alloc: Global,
+    volume: &Volume<S, C>,
+    pass: &mut Pass<Core<S, C>>,
+    gate: &G,
+    first: u64,
+    count: u64,
+    fua: bool,
+    payload: Vec<u8>,
+) -> Outcome
+    requires pass { IsPass volume.now.lock.table.shared.table_id volume.now.geometry volume.now.cipher pass.old.seat }
+    requires open { NothingOpen (view pass.old.seat) }
+    requires sector { IsSectorSize volume.now.geometry.sector }
+    requires some { 0 < length payload.items }
+    requires whole { length payload.items ≡ volume.now.geometry.sector * count }
+    requires small { length payload.items ≤ 2 ^ 25 }
+    requires within { first < 2 ^ 55 }
+    ensures pass { IsPass volume.now.lock.table.shared.table_id volume.now.geometry volume.now.cipher pass.new.seat }
+    ensures open { NothingOpen (view pass.new.seat) }
+    ensures call { (es : List Entry) × Call (view pass.old.seat) (view pass.new.seat) es
+        × WriteLeaves first count fua payload.items result (events_of es) }
+{
+    let stored = write_sectors(rt, alloc, volume, pass, gate, first, count, payload);
+    if !fua {
+        return stored;
+    }
+    let Outcome::Done = stored else {
+        return stored;
+    };
+    flush_volume(rt, volume, pass)
+}
+
+// The outcome of a write.
+fn written_outcome(answer: Result<(), IoError>) -> Outcome
+    ensures { result ≡ write_outcome answer }
+{
+    match answer {
+        Ok(()) => Outcome::Done,
+        Err(IoError::Range) => Outcome::WriteBeyond,
+        Err(IoError::Denied) => Outcome::Denied,
+        Err(IoError::Frozen) => Outcome::Frozen,
+        Err(IoError::Fault(_)) => Outcome::Fault,
+        Err(IoError::NoMemory) => Outcome::NoMemory,
+    }
+}
+
+// Flushes the volume.
+pub(crate) fn flush_volume<R: Threads + Wait + Sync, S: Store, C: UnitCipher>(
+    rt: &R,
+    volume: &Volume<S, C>,
+    pass: &mut Pass<Core<S, C>>,
+) -> Outcome
+    requires pass { IsPass volume.now.lock.table.shared.table_id volume.now.geometry volume.now.cipher pass.old.seat }
+    requires open { NothingOpen (view pass.old.seat) }
+    ensures pass { IsPass volume.now.lock.table.shared.table_id volume.now.geometry volume.now.cipher pass.new.seat }
+    ensures open { NothingOpen (view pass.new.seat) }
+    ensures call { (es : List Entry) × Call (view pass.old.seat) (view pass.new.seat) es × FlushLeaves result (events_of es) }
+{
+    outcome_of(volume.flush(rt, pass))
+}
+
+// The outcome of a read or flush.
+fn outcome_of(answer: Result<(), IoError>) -> Outcome
+    ensures { result ≡ read_outcome answer }
+{
+    match answer {
+        Ok(()) => Outcome::Done,
+        Err(IoError::Range) => Outcome::ReadBeyond,
+        Err(IoError::Denied) => Outcome::Denied,
+        Err(IoError::Frozen) => Outcome::Frozen,
+        Err(IoError::Fault(_)) => Outcome::Fault,
+        Err(IoError::NoMemory) => Outcome::NoMemory,
+    }
+}
