@@ -1,0 +1,4 @@
+-- what each event of the core may do, asks and adds, as an act on the lock
+pub mod Acts
+-- the open writes of a pass, and the admission of one
+pub mod Opens

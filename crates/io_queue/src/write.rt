@@ -1,0 +1,108 @@
+//! Writing.
+ghost use Rattle.std.specs.Prelude.{◌≡◌, ◌≢◌, ◌<◌, ◌≤◌, ◌↔◌, ◌+◌, ◌-◌, ◌%◌, ◌^◌, ℕ, length, min, All, Err, IfSome, List};
+ghost use Rattle.hist_lock.specs.Known.{view};
+ghost use Rattle.io_core.specs.Fragments.{IsWaiting};
+ghost use Rattle.sector_model.specs.Array.{AreSectors, Fits, sectors_of};
+ghost use Rattle.sector_model.specs.declared.entry.Entry.{Entry};
+ghost use Rattle.io_queue.specs.Calls.{Admitted, WriteAdds};
+ghost use Rattle.io_queue.specs.Pass.{Call, IsPass, NothingOpen, shape, StandsFor};
+
+use crate::deposit::FRAGMENT_BYTES;
+use crate::error::IoError;
+use crate::points::end_point;
+use crate::volume::Volume;
+use cipher_base::UnitCipher;
+use hist_lock::Pass;
+use io_core::{Admit, Close, Core, Prepared};
+use std::alloc::Global;
+use std::cmp::min;
+use std::sync::Wait;
+use std::thread::Threads;
+use vc_outside::{Gate, Store};
+
+// What a write takes before it is admitted: its place among the pending writes, its data once more, which is
+// enciphered after the admission, and room for a fragment.
+#[derive(Drop)]
+struct Memory {
+    write: Prepared,
+    plain: Vec<u8>,
+    room: Vec<u8>,
+}
+
+impl<S: Store, C: UnitCipher> Volume<S, C> {
+    /// Writes the data from the sector `first` on. After Fault its fragments that failed have any bytes. It
+    /// takes all its memory before the write is admitted, and passes the points of `points` at the gate.
+    pub fn write<R: Threads + Wait + Sync, G: Gate>(
+        &self,
+        rt: &R,
+        alloc: Global,
+        pass: &mut Pass<Core<S, C>>,
+        gate: &G,
+        first: u64,
+        bytes: Vec<u8>,
+    ) -> Result<(), IoError>
+        requires pass { IsPass self.now.lock.table.shared.table_id self.now.geometry self.now.cipher pass.old.seat }
+        requires open { NothingOpen (view pass.old.seat) }
+        requires some { 0 < length bytes.items }
+        requires whole { AreSectors (shape self.now.geometry) bytes.items }
+        requires small { length bytes.items ≤ 2 ^ 25 }
+        requires within { first < 2 ^ 55 }
+        ensures pass { IsPass self.now.lock.table.shared.table_id self.now.geometry self.now.cipher pass.new.seat }
+        ensures open { NothingOpen (view pass.new.seat) }
+        ensures call { (es : List Entry) × Call (view pass.old.seat) (view pass.new.seat) es
+            × WriteAdds (shape self.now.geometry) (view pass.old.seat).number first bytes.items result es }
+        ensures range { result ≡ Err IoError.Range
+            ↔ ¬ Fits (shape self.now.geometry) first (sectors_of (shape self.now.geometry) bytes.items) }
+        ensures judged { result ≢ Err IoError.Range → result ≢ Err IoError.NoMemory
+            → Admitted (view pass.old.seat) (view pass.new.seat) first (sectors_of (shape self.now.geometry) bytes.items) result }
+        ensures stands { result ≢ Err IoError.NoMemory → StandsFor ⟦<S as Store>⟧ ⟦<C as UnitCipher>⟧ (view pass.new.seat) }
+    {
+        let count = self.sectors_of(&bytes);
+        if !self.fits(first, count) {
+            self.note_beyond(rt, pass, first, count);
+            return Err(IoError::Range);
+        }
+        let Some(memory) = prepare(alloc, pass.number(), first, bytes) else {
+            return Err(IoError::NoMemory);
+        };
+        let Memory {
+            write,
+            plain,
+            mut room,
+        } = memory;
+        match self.admit(rt, pass, write) {
+            Admit::Denied(_) => Err(IoError::Denied),
+            Admit::Frozen(_) => Err(IoError::Frozen),
+            Admit::Later(_) => unreachable!(),
+            Admit::In => {
+                let unit = self.unit_of(first);
+                self.deposit_all(rt, pass, gate, unit, &plain, &mut room);
+                let end = self.end(rt, pass, first, count);
+                end_point(gate, pass.number());
+                match end {
+                    Close::Done(_) => Ok(()),
+                    Close::Lost(mark) => Err(IoError::Fault(mark)),
+                    Close::Waiting => unreachable!(),
+                }
+            }
+        }
+    }
+}
+
+// Takes the memory for a write.
+fn prepare(alloc: Global, caller: u64, first: u64, bytes: Vec<u8>) -> Option<Memory>
+    requires some { 0 < length bytes.items }
+    requires whole { length bytes.items % 512 ≡ 0 }
+    requires small { length bytes.items ≤ 2 ^ 25 }
+    requires within { first ≤ 2 ^ 55 - 65536 }
+    ensures write { IfSome result (λ m. (m.write.caller ≡ caller) × (m.write.number ≡ 0) × (m.write.first ≡ first)
+        × (m.write.bytes ≡ bytes) × All IsWaiting m.write.parts.items) }
+    ensures plain { IfSome result (λ m. m.plain.items ≡ bytes.items) }
+    ensures room { IfSome result (λ m. length m.room.items ≡ min (length bytes.items) 262144) }
+{
+    let mut plain = Vec::with_capacity(alloc, bytes.len()).ok()?;
+    plain.extend_from_slice(&bytes).ok()?;
+    let room = vec![in alloc; 0u8; min(bytes.len(), FRAGMENT_BYTES)].ok()?;
+    let write = Prepared::new(alloc, caller, 0, first, bytes).ok()?;
+    Some(Memory { write, plain, room })
+}
