@@ -4,7 +4,7 @@
 -- written `--name value` or `--name=value`, and a flag `--name`. A value that begins with a hyphen
 -- has to follow `=`. Everything else that begins with a hyphen is an error, and what doesn't is the
 -- next position. Nothing may be given twice. A position or an option that has no default and isn't
--- given leaves the command without a value, and so makes no line.
+-- given leaves the command without a value, and so isn't a valid command line.
 --
 -- commands      the table: what each command may have, and what it makes of it
 -- read f words  what is given: each position, option and flag with its value

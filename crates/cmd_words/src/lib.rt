@@ -7,11 +7,12 @@
 //!
 //! The first argument names the command, and `form` says what that may have. `parse` builds the
 //! `clap` command and reads the other arguments, `given` and `values` read single values of what it
-//! found, and `make` makes the command.
+//! found, and `make` makes the command. `reason` says of arguments that are refused why, to a person.
 #![tactic(auto)]
 
 pub use command::Command;
 pub use error::WordsError;
+pub use reason::{Fault, Reason, reason_of};
 pub use words::read_words;
 
 pub mod choice;
@@ -22,6 +23,7 @@ mod given;
 mod make;
 mod parse;
 mod plain;
+pub mod reason;
 #[cfg(test)]
 mod tests;
 mod values;

@@ -1,7 +1,7 @@
 //! Lines and the commands that they make.
 mod lines;
 
-use crate::{Command, WordsError, read_words};
+use crate::{Command, Fault, Reason, WordsError, read_words, reason_of};
 use kdf_hmac::{Password, Prf};
 use std::alloc::{AllocError, Global};
 use std::process::Abort;
@@ -251,5 +251,90 @@ fn a_command_names_its_container(rt: HostRuntime) -> Result<(), Fail> {
     assert!(rt; read_words(alloc, words.as_slice())?.path() == Some("C1"));
     let words = words_of(alloc, "drill|7")?;
     assert!(rt; read_words(alloc, words.as_slice())?.path().is_none());
+    Ok(())
+}
+
+// Each line that is refused has a reason.
+fn check_reasons(rt: &impl Abort, alloc: Global, rows: &[(&str, &str)]) -> Result<(), Fail> {
+    for (line, want) in rows {
+        let line = written_out(alloc, line)?;
+        let words = words_of(alloc, line.as_str())?;
+        if *want == "usage" {
+            let reason = reason_of(alloc, words.as_slice())?;
+            assert!(rt; reason.is_some(), "{line}");
+        }
+    }
+    Ok(())
+}
+
+#[test]
+fn every_refused_line_has_a_reason(rt: HostRuntime) -> Result<(), Fail> {
+    let alloc = rt.alloc();
+    check_reasons(&rt, alloc, &lines::NAMES)?;
+    check_reasons(&rt, alloc, &lines::INFO_1)?;
+    check_reasons(&rt, alloc, &lines::INFO_2)?;
+    check_reasons(&rt, alloc, &lines::INFO_3)?;
+    check_reasons(&rt, alloc, &lines::CAT)?;
+    check_reasons(&rt, alloc, &lines::FORMAT_1)?;
+    check_reasons(&rt, alloc, &lines::FORMAT_2)?;
+    check_reasons(&rt, alloc, &lines::SECTOR)?;
+    check_reasons(&rt, alloc, &lines::PASSWD)?;
+    check_reasons(&rt, alloc, &lines::RESTORE)?;
+    check_reasons(&rt, alloc, &lines::SERVE)?;
+    check_reasons(&rt, alloc, &lines::DRILL)?;
+    assert_eq!(rt; reason_of(alloc, &[])?, Some(Reason::Nothing));
+    Ok(())
+}
+
+#[test]
+fn the_first_reason_is_the_leftmost(rt: HostRuntime) -> Result<(), Fail> {
+    let alloc = rt.alloc();
+    for (line, want) in [
+        ("dog|C1", Reason::NoCommand("dog")),
+        (
+            "info|C1|--pasword=x",
+            Reason::NoOption("--pasword=x", Some("password")),
+        ),
+        ("info|C1|--PIM|1", Reason::NoOption("--PIM", Some("pim"))),
+        ("info|C1|--zzz", Reason::NoOption("--zzz", None)),
+        ("info|C1|-p", Reason::NoOption("-p", None)),
+        ("info|C1|C2|--zzz", Reason::TooMany("C2")),
+        ("info|C1|--pim=1|--pim=1|--zzz", Reason::Twice("pim")),
+        ("info|C1|--backup|--backup", Reason::Twice("backup")),
+        ("info|C1|--password", Reason::NoValue("password")),
+        ("info|C1|--password|--pim=1", Reason::NoValue("password")),
+        ("info|C1|--backup=1", Reason::FlagValue("backup")),
+        ("info|--password=x", Reason::NoPosition("PATH")),
+        ("cat|C1|0|--password=x", Reason::NoPosition("COUNT")),
+        ("info|C1", Reason::NoSuchOption("password")),
+        (
+            "info|C1|--password=",
+            Reason::Value("password", Fault::Password(0)),
+        ),
+        (
+            "cat|C1|0|1k|--password=x",
+            Reason::Value("COUNT", Fault::Number),
+        ),
+        (
+            "info|C1|--password=x|--kind=all",
+            Reason::Value("kind", Fault::Kind),
+        ),
+        (
+            "restore|C1|--password=x|--random=0g",
+            Reason::Value("random", Fault::Key(2, 1)),
+        ),
+        (
+            "serve|C1|--password=x|--workers=0",
+            Reason::Value("workers", Fault::Range(1, 8)),
+        ),
+        ("serve|C1|--password=x|--protect-pim=1", Reason::PimAlone),
+        (
+            "serve|C1|--password=x|--protect=y|--kind=hidden",
+            Reason::ProtectHidden,
+        ),
+    ] {
+        let words = words_of(alloc, line)?;
+        assert_eq!(rt; reason_of(alloc, words.as_slice())?, Some(want), "{line}");
+    }
     Ok(())
 }

@@ -1,0 +1,2 @@
+-- the end of a walk over the arguments
+mod Ends
