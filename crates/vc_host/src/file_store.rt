@@ -6,81 +6,239 @@ ghost use Rattle.std.specs.Prelude.{◌≡◌, ◌≤◌, ◌+◌, ⊤, false, N
 ghost use Rattle.std.proofs.lemmas.Bool.{false≢true};
 ghost use Rattle.vc_base.specs.Faults.{HasCause, Rose};
 
-use std::fs::{self, File, OpenFile, OpenOptions};
+use crate::file_name::FileName;
+use crate::obstacle::{Obstacle, Purpose, Trouble};
+use crate::progress::Progress;
+use std::fs::{self, File, Metadata, OpenFile, OpenOptions};
 use std::io::{self, ErrorKind};
-use std::os::unix::fs::FileExt;
+use std::os::unix::fs::{FileExt, MetadataExt, OpenOptionsExt};
 use std::rt::Files;
 use vc_outside::{Failed, OutError, Store};
 
-/// A container in a file, with its length as it was when the file was opened or last resized.
+/// A container in a file, with its length as it was when the file was opened or last resized. While it is
+/// open, its file is locked: no other store that may write is open over the same file, and if this one may
+/// write, none at all. The system's lock binds only programs that ask for it.
 #[derive(Drop)]
 pub struct FileStore {
     file: File,
     len: u64,
     faults: u64,
+    // The last fault, for a person.
+    trouble: Option<Trouble>,
+    progress: Option<Progress>,
+    is_made: bool,
+    // The name of a made file, once it is known.
+    name: Option<FileName>,
 }
 
 impl FileStore {
     /// Opens an existing file to read and write, or only to read if writing isn't allowed. Fails if there
-    /// is none, or if it isn't a regular file.
+    /// is none, if it isn't a regular file, or if it is locked.
     pub fn open<R: Files<File = File>>(rt: &R, path: &str) -> Result<FileStore, Failed>
         ensures { IfOk result (λ s. ⟦<FileStore as Store>⟧.faults s ≡ 0) }
     {
-        // To open a pipe would wait for its other end.
-        match fs::metadata(rt, path) {
-            Ok(metadata) if metadata.is_file() => {}
-            _ => return Err(Failed),
-        }
-        match OpenOptions::new().read(true).write(true).open(rt, path) {
-            Ok(file) => FileStore::over(file),
-            Err(error) if forbids_writing(error.kind()) => match File::open(rt, path) {
-                Ok(file) => FileStore::over(file),
-                Err(_) => Err(Failed),
-            },
-            Err(_) => Err(Failed),
-        }
+        FileStore::open_for(rt, path, Purpose::Writing).map_err(|_| Failed)
     }
 
-    /// Opens a file to read and write. Makes an empty one if it is missing, and leaves an existing one as
-    /// it is. Fails if it isn't a regular file.
+    /// Opens a file to read and write. Makes an empty one, for its owner alone, if it is missing, and leaves
+    /// an existing one as it is. Fails if it isn't a regular file, or if it is locked.
     pub fn create<R: Files<File = File>>(rt: &R, path: &str) -> Result<FileStore, Failed>
         ensures { IfOk result (λ s. ⟦<FileStore as Store>⟧.faults s ≡ 0) }
     {
-        match fs::metadata(rt, path) {
-            Ok(metadata) if metadata.is_file() => {}
-            Err(error) if error.kind() == ErrorKind::NotFound => {}
-            _ => return Err(Failed),
+        FileStore::open_for(rt, path, Purpose::Making).map_err(|_| Failed)
+    }
+
+    /// Opens a file as `open` and `create` do, or for reading alone: then each write fails, and stores that
+    /// only read may be open over the file beside this one. Says what is in the way.
+    pub fn open_for<R: Files<File = File>>(
+        rt: &R,
+        path: &str,
+        purpose: Purpose,
+    ) -> Result<FileStore, Obstacle>
+        ensures { IfOk result (λ s. ⟦<FileStore as Store>⟧.faults s ≡ 0) }
+    {
+        if matches!(purpose, Purpose::Making) {
+            if let Some(file) = new_file(rt, path)? {
+                let mut store = FileStore::over(file, Purpose::Making)?;
+                store.is_made = true;
+                return Ok(store);
+            }
+        }
+        // To open a pipe would wait for its other end.
+        if !fs::metadata(rt, path)?.is_file() {
+            return Err(Obstacle::NotRegular);
         }
         let mut options = OpenOptions::new();
-        options.read(true).write(true).create(true);
-        match options.open(rt, path) {
-            Ok(file) => FileStore::over(file),
-            Err(_) => Err(Failed),
+        options
+            .read(true)
+            .write(!matches!(purpose, Purpose::Reading));
+        let file = match options.open(rt, path) {
+            Err(error) if matches!(purpose, Purpose::Writing) && forbids_writing(error.kind()) => {
+                File::open(rt, path)?
+            }
+            opened => opened?,
+        };
+        FileStore::over(file, purpose)
+    }
+
+    /// Finds the name of a file that `create` made, for `sync` and `discard`. Does nothing for another file.
+    /// Fails if the system does, or if memory runs out, and then tries to remove the file.
+    pub fn find_name<R: Files<File = File> + AllocGlobal>(
+        &mut self,
+        rt: &R,
+        path: &str,
+    ) -> Result<(), Obstacle>
+        ensures len { self.new.len ≡ self.old.len }
+        ensures faults { self.new.faults ≡ self.old.faults }
+    {
+        if !self.is_made {
+            return Ok(());
+        }
+        match FileName::of(rt, path) {
+            Ok(name) => {
+                self.name = Some(name);
+                Ok(())
+            }
+            Err(error) => {
+                let _ = self.remove_at(rt, path);
+                Err(Obstacle::System(error))
+            }
         }
     }
 
-    // A store over an open file, if that is a regular one.
-    fn over(file: File) -> Result<FileStore, Failed>
+    // Removes the file at a path, if that names this one without a link.
+    fn remove_at<R: Files<File = File>>(&self, rt: &R, path: &str) -> io::Result<()> {
+        if self.is_of(&fs::symlink_metadata(rt, path)?) {
+            fs::remove_file(rt, path)?;
+        }
+        Ok(())
+    }
+
+    /// Removes a file that `create` made, and only that, if its name is known and still names it.
+    pub fn discard<R: Files<File = File>>(&self, rt: &R) -> io::Result<()> {
+        match &self.name {
+            Some(name) => self.remove_at(rt, name.path()),
+            None => Ok(()),
+        }
+    }
+
+    /// Whether a path names this file, as `/dev/stdout` does if the standard output goes there.
+    pub fn is_at<R: Files<File = File>>(&self, rt: &R, path: &str) -> bool {
+        match fs::metadata(rt, path) {
+            Ok(that) => self.is_of(&that),
+            Err(_) => false,
+        }
+    }
+
+    // Whether this is about this file.
+    fn is_of(&self, that: &Metadata) -> bool {
+        match self.file.metadata() {
+            Ok(this) => this.dev() == that.dev() && this.ino() == that.ino(),
+            Err(_) => false,
+        }
+    }
+
+    // A store over an open file, if that is a regular one and can be locked. A file that was removed before it
+    // was locked has no name any more, and what is written to it would be lost.
+    fn over(file: File, purpose: Purpose) -> Result<FileStore, Obstacle>
         ensures { IfOk result (λ s. ⟦<FileStore as Store>⟧.faults s ≡ 0) }
     {
-        match file.metadata() {
-            Ok(metadata) if metadata.is_file() => Ok(FileStore {
-                file,
-                len: metadata.len(),
-                faults: 0,
-            }),
-            _ => Err(Failed),
+        match purpose {
+            Purpose::Reading => file.try_lock_shared()?,
+            _ => file.try_lock()?,
         }
+        let metadata = file.metadata()?;
+        if !metadata.is_file() {
+            return Err(Obstacle::NotRegular);
+        }
+        if metadata.nlink() == 0 {
+            return Err(Obstacle::Locked);
+        }
+        Ok(FileStore {
+            file,
+            len: metadata.len(),
+            faults: 0,
+            trouble: None,
+            progress: None,
+            is_made: false,
+            name: None,
+        })
+    }
+
+    /// Tells a person at the terminal at this path, such as `/dev/stderr`, how much of a long write of so many
+    /// bytes is done, until the next `sync`.
+    pub fn tell_progress<R: Files<File = File>>(
+        &mut self,
+        rt: &R,
+        terminal: &str,
+        total: u64,
+    ) -> io::Result<()>
+        ensures len { self.new.len ≡ self.old.len }
+        ensures faults { self.new.faults ≡ self.old.faults }
+    {
+        self.progress = Progress::of(rt, terminal, total)?;
+        Ok(())
+    }
+
+    fn tell_written(&mut self, bytes: u64)
+        ensures len { self.new.len ≡ self.old.len }
+        ensures faults { self.new.faults ≡ self.old.faults }
+    {
+        if let Some(progress) = &mut self.progress {
+            progress.add(bytes);
+        }
+    }
+
+    /// Removes the line that tells the progress.
+    pub fn end_progress(&mut self)
+        ensures len { self.new.len ≡ self.old.len }
+        ensures faults { self.new.faults ≡ self.old.faults }
+    {
+        if let Some(progress) = &mut self.progress {
+            progress.remove();
+        }
+        self.progress = None;
+    }
+
+    fn sync_with_name(&self) -> io::Result<()> {
+        self.file.sync_all()?;
+        match &self.name {
+            Some(name) => name.sync(),
+            None => Ok(()),
+        }
+    }
+
+    /// The last call that failed, and why.
+    pub fn trouble(&self) -> Option<&Trouble> {
+        self.trouble.as_ref()
     }
 
     // Counts a failed call.
-    fn failed(&mut self) -> Failed
+    fn failed(&mut self, call: &'static str, error: io::Error) -> Failed
         ensures len { self.new.len ≡ self.old.len }
         ensures later { self.old.faults ≤ self.new.faults }
         ensures rose { Rose self.old.faults self.new.faults }
     {
         self.faults = self.faults.saturating_add(1);
+        self.trouble = Some(Trouble { call, error });
         Failed
+    }
+}
+
+// A new file for its owner alone, if there is none at a path. A link may lead to a file that is missing.
+fn new_file<R: Files<File = File>>(rt: &R, path: &str) -> io::Result<Option<File>> {
+    let mut options = OpenOptions::new();
+    options.read(true).write(true).mode(0o600);
+    match options.create_new(true).open(rt, path) {
+        Ok(file) => return Ok(Some(file)),
+        Err(error) if error.kind() == ErrorKind::AlreadyExists => {}
+        Err(error) => return Err(error),
+    }
+    match fs::metadata(rt, path) {
+        Err(error) if error.kind() == ErrorKind::NotFound => {
+            Ok(Some(options.create_new(false).create(true).open(rt, path)?))
+        }
+        _ => Ok(None),
     }
 }
 
@@ -123,7 +281,7 @@ impl Store for FileStore {
     {
         match self.file.read_exact_at(out, at) {
             Ok(()) => Ok(()),
-            Err(_) => Err(self.failed()),
+            Err(error) => Err(self.failed("read", error)),
         }
     }
 
@@ -134,8 +292,11 @@ impl Store for FileStore {
         ensures no_fault { OnOk result (self.new.faults ≡ self.old.faults) }
     {
         match self.file.write_all_at(bytes, at) {
-            Ok(()) => Ok(()),
-            Err(_) => Err(self.failed()),
+            Ok(()) => {
+                self.tell_written(bytes.len() as u64);
+                Ok(())
+            }
+            Err(error) => Err(self.failed("write", error)),
         }
     }
 
@@ -152,21 +313,23 @@ impl Store for FileStore {
                 self.len = len;
                 Ok(())
             }
-            Err(_) => {
-                let Failed = self.failed();
+            Err(error) => {
+                let Failed = self.failed("set the length", error);
                 Err(OutError::Failed)
             }
         }
     }
 
+    /// Syncs the folder of a made file too, so that its name isn't lost.
     fn sync(&mut self) -> Result<(), Failed>
         ensures size { self.new.len ≡ self.old.len }
         ensures cause { HasCause self.old.faults self.new.faults (IsErr result) }
         ensures no_fault { OnOk result (self.new.faults ≡ self.old.faults) }
     {
-        match self.file.sync_all() {
+        self.end_progress();
+        match self.sync_with_name() {
             Ok(()) => Ok(()),
-            Err(_) => Err(self.failed()),
+            Err(error) => Err(self.failed("sync", error)),
         }
     }
 

@@ -2,6 +2,8 @@
 use super::*;
 use std::fs::{self, File};
 use std::io::{self, ErrorKind, Write};
+use std::os::unix::fs::MetadataExt;
+use std::rt::Files;
 use vc_outside::{Failed, OutError, Sink, Store, SureStore};
 
 // A call that changes a container.
@@ -94,7 +96,12 @@ fn a_file_is_found_again_and_has_a_hole_past_4_gib(rt: HostRuntime) {
     assert_eq!(rt; made.set_len(1 << 63), Err(OutError::Failed));
     assert_eq!(rt; (made.len(), made.faults()), (5 << 30, 1));
     drop(made);
-    for store in [FileStore::open(&rt, path), FileStore::create(&rt, path)] {
+    for is_made in [false, true] {
+        let store = if is_made {
+            FileStore::create(&rt, path)
+        } else {
+            FileStore::open(&rt, path)
+        };
         let Ok(mut store) = store else {
             return assert!(rt; false, "not found");
         };
@@ -105,6 +112,110 @@ fn a_file_is_found_again_and_has_a_hole_past_4_gib(rt: HostRuntime) {
         assert_eq!(rt; (below, above), ([0; 7], *b"above\0\0"));
     }
     assert!(rt; fs::remove_file(&rt, path).is_ok());
+}
+
+// Whether a store could be opened in each of the three ways, one after another: to write, to read, by `create`.
+fn ways<R: Files<File = File>>(rt: &R, path: &str) -> [bool; 3] {
+    let writes = FileStore::open(rt, path).is_ok();
+    let reads = FileStore::open_for(rt, path, Purpose::Reading).is_ok();
+    let creates = FileStore::create(rt, path).is_ok();
+    [writes, reads, creates]
+}
+
+#[test]
+fn only_readers_share_a_file(rt: HostRuntime) {
+    let path = "locked.tmp";
+    assert!(rt;
+        FileStore::open_for(&rt, path, Purpose::Reading).is_err(),
+        "a missing file"
+    );
+    assert!(rt;
+        FileStore::open_for(&rt, ".", Purpose::Reading).is_err(),
+        "a folder"
+    );
+    let Ok(made) = FileStore::create(&rt, path) else {
+        return assert!(rt; false, "not made");
+    };
+    assert_eq!(rt; ways(&rt, path), [false, false, false], "while it is made");
+    drop(made);
+    assert_eq!(rt; ways(&rt, path), [true, true, true], "one after another");
+    let Ok(writer) = FileStore::open(&rt, path) else {
+        return assert!(rt; false, "not opened");
+    };
+    assert_eq!(rt;
+        ways(&rt, path),
+        [false, false, false],
+        "while it is written"
+    );
+    drop(writer);
+    let Ok(mut reader) = FileStore::open_for(&rt, path, Purpose::Reading) else {
+        return assert!(rt; false, "not opened");
+    };
+    assert_eq!(rt; ways(&rt, path), [false, true, false], "while it is read");
+    assert_eq!(rt;
+        reader.set_len(5),
+        Err(OutError::Failed),
+        "a reader writes nothing"
+    );
+    assert!(rt; fs::remove_file(&rt, path).is_ok());
+}
+
+#[test]
+fn a_made_file_is_for_its_owner_and_can_be_discarded(rt: HostRuntime) {
+    let path = "discarded.tmp";
+    let Ok(mut made) = FileStore::create(&rt, path) else {
+        return assert!(rt; false, "not made");
+    };
+    let mode = fs::metadata(&rt, path).map(|metadata| metadata.mode() & 0o777);
+    assert!(rt; matches!(mode, Ok(0o600)));
+    assert!(rt; made.find_name(&rt, path).is_ok());
+    assert!(rt; made.is_at(&rt, path) && !made.is_at(&rt, "."));
+    assert_eq!(rt; (made.sync(), made.faults()), (Ok(()), 0));
+    drop(made);
+    // Another file of that name, or one that was there before, stays.
+    let Ok(mut found) = FileStore::create(&rt, path) else {
+        return assert!(rt; false, "not found");
+    };
+    assert!(rt; found.find_name(&rt, path).is_ok());
+    assert!(rt; found.discard(&rt).is_ok());
+    assert!(rt; fs::remove_file(&rt, path).is_ok(), "there before");
+    let Ok(mut made) = FileStore::create(&rt, path) else {
+        return assert!(rt; false, "not made");
+    };
+    assert!(rt; made.find_name(&rt, path).is_ok());
+    assert!(rt; made.discard(&rt).is_ok());
+    assert!(rt; fs::metadata(&rt, path).is_err(), "made and discarded");
+}
+
+#[test]
+fn a_long_write_is_told_by_the_hundredth_and_the_line_is_removed(rt: HostRuntime) {
+    let (path, line) = ("long.tmp", "line.tmp");
+    assert!(rt; fs::write(&rt, line, "").is_ok());
+    for (total, want) in [
+        (256 << 20, ""),
+        (400, ""),
+        // 1 per cent is 3 MiB, of 4 that are written
+        (300 << 20, "\r1% (3145728 of 314572800 bytes)\r\x1b[K"),
+    ] {
+        let Ok(mut store) = FileStore::create(&rt, path) else {
+            return assert!(rt; false, "not made");
+        };
+        assert_eq!(rt; store.set_len(8 << 20), Ok(()));
+        assert!(rt; store.tell_progress(&rt, line, total).is_ok());
+        let piece = [0; 4096];
+        for at in 0..1024 {
+            let at = at * 4096;
+            if at + 4096 <= store.len() {
+                assert_eq!(rt; store.write_at(at, &piece), Ok(()));
+            }
+        }
+        assert_eq!(rt; store.sync(), Ok(()));
+        let Ok(told) = fs::read_to_string(&rt, line) else {
+            return assert!(rt; false, "not read");
+        };
+        assert_eq!(rt; told.as_str(), want);
+    }
+    assert!(rt; fs::remove_file(&rt, path).is_ok() && fs::remove_file(&rt, line).is_ok());
 }
 
 #[test]
