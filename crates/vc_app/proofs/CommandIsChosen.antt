@@ -8,17 +8,12 @@ use Rattle.vc_outside.proofs.NothingMore.{nothing_more}
 use Rattle.vc_app.specs.declared.status.Status.{Status}
 use Rattle.vc_app.specs.declared.status.Status.TheVariants.{Usage}
 use Rattle.vc_app.specs.Commands.{promise_by, promise_of, promise_of_line}
-use Rattle.vc_app.specs.Promise.{anywhere, hidden_slots, Kept, no_command, nowhere, Promise, Reach, Seen, Unchanged, Within}
+use Rattle.vc_app.specs.Promise.{anywhere, Kept, no_command, nowhere, part, Reach, Seen, Unchanged, Within}
 use Rattle.vc_app.specs.Status.{words_status}
-use Rattle.vc_app.proofs.PromiseIsKept.{memory_kept, refusal_kept, slots_same, Untouched}
+use Rattle.vc_app.proofs.PromiseIsKept.{memory_kept, refusal_kept, Quiet}
 
-nothing_touched : (now : Seen) → Untouched now now
-nothing_touched now = record {
-  same = record { image = refl; size = refl };
-  contents = refl;
-  disk_later = omega arith;
-  out_later = omega arith;
-}
+nothing_written : (now : Seen) → Quiet now now
+nothing_written now = record { contents = refl; disk_later = omega arith; out_later = omega arith }
 
 nothing_changed : (now : Seen) → Unchanged now now
 nothing_changed now = record {
@@ -28,13 +23,13 @@ nothing_changed now = record {
 
 nothing_reached : (r : Reach) (now : Seen) → Within r now now
 nothing_reached nowhere now = nothing_changed now
-nothing_reached hidden_slots now = record { outside = slots_same now.image now.image refl; size = refl }
+nothing_reached (part only left) now = inl (nothing_changed now)
 nothing_reached anywhere now = tt
 
 -- what is no command is Usage
 usage_kept : (now : Seen) → Kept no_command Usage now now
 usage_kept now =
-    refusal_kept no_command Usage now now tt tt (nothing_touched now) (nothing_changed now)
+    refusal_kept no_command Usage now now tt tt (nothing_written now) (nothing_changed now).same (nothing_changed now)
     (inl (record { refuses = λ h. h; comes = refl })) (λ t early. sym early.comes)
 
 pub line_kept : (arguments : List Text) (l : Line) (s : Status) (old new : Seen) → line arguments ≡ Some l
@@ -51,4 +46,5 @@ pub unread_kept : (arguments : List Text) (r : Result Command WordsError) (e : W
     → (r ≡ Err words.Usage → line arguments ≡ None) → Kept (promise_of arguments) (words_status e) now now
 unread_kept arguments r words.Usage now is none = none_kept arguments now (none is)
 unread_kept arguments r words.NoMemory now is none =
-    memory_kept (promise_of arguments) now now (nothing_touched now) (nothing_reached (promise_of arguments).reach now) refl refl
+    memory_kept (promise_of arguments) now now (nothing_written now) (nothing_changed now).same
+    (nothing_reached (promise_of arguments).reach now) refl refl

@@ -8,6 +8,8 @@ pub mod Parts
 pub mod PromiseIsKept
 -- how a command that opens a volume keeps its promise
 pub mod Reading
+-- how a command that writes headers of an opened volume keeps its promise
+pub mod Rewriting
 -- from the arguments to the promise that is kept
 pub mod CommandIsChosen
 -- sectors in data units and bytes

@@ -3,22 +3,21 @@
 -- A call is refused with nothing touched, it is out of memory with nothing touched, or its work on the container is
 -- whole. In the last case the counts of faults decide how it ended. And a call that kept its promise does what the
 -- container's bytes decide, if no count rises.
-use Rattle.std.proofs.Common.{◌≡◌, ◌≢◌, ◌≤◌, ◌<◌, ◌⊎◌, inl, inr, ℕ, ◌-◌, ◌^◌, false, List, Option, Some, None, option_map, Result, Ok, Err, refl, sym, ap, ◌∙◌, subst, arith}
+use Rattle.std.proofs.Common.{◌≡◌, ◌≤◌, ◌<◌, ◌⊎◌, inl, inr, ℕ, ◌-◌, ◌^◌, false, List, Option, Some, None, option_map, Result, Ok, Err, refl, sym, ap, ◌∙◌, subst, arith}
 use Rattle.std.specs.Prelude.{IfSome, IsErrAnd, IsErrOf, IsOk, OnOk}
-use Rattle.vc_base.specs.Faults.{HasCause, Rose}
+use Rattle.vc_base.specs.Faults.{Rose}
 use Rattle.vc_outside.specs.Told.{Both, Grows, GrowsByFront}
-use Rattle.volume_format.specs.Hidden.{OnlyHiddenSlots}
 use Rattle.vc_app.specs.declared.counts.WorkError.{WorkError}
 use Rattle.vc_app.specs.declared.counts.WorkError.TheVariants as work
 use Rattle.vc_app.specs.declared.status.Status.{Status}
 use Rattle.vc_app.specs.declared.status.Status.TheVariants.{Done, Usage, NoHeader, NoHidden, Length, BadSize, DiskFault, OutFault, NoMemory, ClientCut, ClientMagic, ClientFault}
-use Rattle.vc_app.specs.Status.{ended, IsOfPlain, IsRefusal, work_status}
+use Rattle.vc_app.specs.Laws.Settled.{Settled}
+use Rattle.vc_app.specs.Status.{ended, IsAfterWork, IsOfPlain, IsRefusal, work_status}
 use Rattle.vc_app.specs.Promise.{goes, Goes, IsComplete, IsEarly, IsFront, IsLate, Kept, Outcome, Plan, Promise, refused, Same, Seen, status_in, Whole, Within}
 use Rattle.vc_app.proofs.Growth.{front_of_none}
 
--- nothing was touched, and no count fell
-pub record Untouched (old new : Seen) : Type 0 where
-  pub same : Same old new
+-- nothing was written, and no count fell
+pub record Quiet (old new : Seen) : Type 0 where
   pub contents : new.contents ≡ old.contents
   pub disk_later : old.disk_faults ≤ new.disk_faults
   pub out_later : old.out_faults ≤ new.out_faults
@@ -29,122 +28,105 @@ front_of_nothing (Some (refused s)) old new same = same
 front_of_nothing (Some (goes plan)) old new same =
     subst (λ (x : Option (List ℕ)). GrowsByFront old x plan.output) (sym same) (front_of_none old plan.output)
 
--- the slots of the hidden headers hold what they held
-pub slots_same : (old new : Option (List ℕ)) → new ≡ old → Both old new OnlyHiddenSlots
-slots_same None new same = tt
-slots_same (Some b) new same = subst (λ (x : Option (List ℕ)). Both (Some b) x OnlyHiddenSlots) (sym same) (record {
-  between = b;
-  hidden = record { as_long = refl; before = refl; after = refl };
-  backup = record { as_long = refl; before = refl; after = refl };
-})
+-- ---- nothing is written
+
+-- how such a call ended
+record Stopped (p : Promise) (s : Status) (old new : Seen) : Type 0 where
+  pub unfinished : IsAfterWork s → ⊥
+  pub plain : IsOfPlain s
+  pub same : IsRefusal s ⊎ (s ≡ NoMemory) → Same old new
+  pub early : (t : Status) → IsEarly p t old → ((s ≡ t) ⊎ (s ≡ NoMemory)) × Same old new
+  pub refused : IsRefusal s → IsEarly p s old ⊎ IsLate p s old
+  pub fault : s ≡ DiskFault → Rose old.disk_faults new.disk_faults
+  pub memory : s ≡ NoMemory → (new.disk_faults ≡ old.disk_faults) × (new.out_faults ≡ old.out_faults)
+
+stopped_kept : (p : Promise) (s : Status) (old new : Seen) → Within p.reach old new → Quiet old new → Stopped p s old new
+    → Kept p s old new
+stopped_kept p s old new within quiet stopped = record {
+  done = λ e. absurd (stopped.unfinished (inl e));
+  front = front_of_nothing (p.plan old.image) old.contents new.contents quiet.contents;
+  quiet = λ _. quiet.contents;
+  quiet_fault = λ _ _. quiet.contents;
+  whole = λ w. absurd (stopped.unfinished w);
+  same = λ r. stopped.same (inl r);
+  no_memory = λ e. inl (stopped.same (inr e));
+  within = within;
+  early = λ t h. let k = stopped.early t h in (k.0, k.1, quiet.contents);
+  refused = stopped.refused;
+  possible = stopped.plain;
+  disk_cause = record { later = quiet.disk_later; rose = stopped.fault };
+  out_cause = record { later = quiet.out_later; rose = λ e. absurd (stopped.unfinished (inr e)) };
+  disk_count = λ e. absurd (stopped.unfinished (inl e));
+  out_count = λ e. absurd (stopped.unfinished (inl e));
+  memory_counts = stopped.memory;
+}
 
 -- a refusal is none of the other ends
 no_end : (s t : Status) → (IsRefusal t → ⊥) → IsRefusal s → s ≡ t → ⊥
 no_end s t other r e = other (subst IsRefusal e r)
 
-pub refusal_kept : (p : Promise) (s : Status) (old new : Seen) → IsRefusal s → IsOfPlain s → Untouched old new
+pub refusal_kept : (p : Promise) (s : Status) (old new : Seen) → IsRefusal s → IsOfPlain s → Quiet old new → Same old new
     → Within p.reach old new → (IsEarly p s old ⊎ IsLate p s old) → ((t : Status) → IsEarly p t old → s ≡ t) → Kept p s old new
-refusal_kept p s old new r plain u within cause only = record {
-  done = λ e. absurd (no_end s Done (λ x. x) r e);
-  front = front_of_nothing (p.plan old.image) old.contents new.contents u.contents;
-  quiet = λ _. u.contents;
-  quiet_fault = λ _ _. u.contents;
-  whole = λ w. absurd (elim w [ inl e ↦ no_end s Done (λ x. x) r e | inr e ↦ no_end s OutFault (λ x. x) r e ]);
-  same = λ _. u.same;
-  no_memory = λ _. inl u.same;
-  within = within;
-  early = λ t h. (inl (only t h), u.same, u.contents);
+refusal_kept p s old new r plain quiet same within cause only = stopped_kept p s old new within quiet (record {
+  unfinished = λ w. elim w [ inl e ↦ no_end s Done (λ x. x) r e | inr e ↦ no_end s OutFault (λ x. x) r e ];
+  plain = plain;
+  same = λ _. same;
+  early = λ t h. (inl (only t h), same);
   refused = λ _. cause;
-  possible = plain;
-  disk_cause = record { later = u.disk_later; rose = λ e. absurd (no_end s DiskFault (λ x. x) r e) };
-  out_cause = record { later = u.out_later; rose = λ e. absurd (no_end s OutFault (λ x. x) r e) };
-  disk_count = λ e. absurd (no_end s Done (λ x. x) r e);
-  out_count = λ e. absurd (no_end s Done (λ x. x) r e);
-  memory_counts = λ e. absurd (no_end s NoMemory (λ x. x) r e);
-}
+  fault = λ e. absurd (no_end s DiskFault (λ x. x) r e);
+  memory = λ e. absurd (no_end s NoMemory (λ x. x) r e);
+})
 
 -- out of memory, with nothing touched
-pub memory_kept : (p : Promise) (old new : Seen) → Untouched old new → Within p.reach old new
+pub memory_kept : (p : Promise) (old new : Seen) → Quiet old new → Same old new → Within p.reach old new
     → new.disk_faults ≡ old.disk_faults → new.out_faults ≡ old.out_faults → Kept p NoMemory old new
-memory_kept p old new u within disk out = record {
-  done = λ e. absurd (cc e);
-  front = front_of_nothing (p.plan old.image) old.contents new.contents u.contents;
-  quiet = λ _. u.contents;
-  quiet_fault = λ _ _. u.contents;
-  whole = λ w. absurd (elim w [ inl e ↦ cc e | inr e ↦ cc e ]);
-  same = λ r. absurd r;
-  no_memory = λ _. inl u.same;
-  within = within;
-  early = λ t h. (inr refl, u.same, u.contents);
+memory_kept p old new quiet same within disk out = stopped_kept p NoMemory old new within quiet (record {
+  unfinished = λ w. elim w [ inl e ↦ cc e | inr e ↦ cc e ];
+  plain = tt;
+  same = λ _. same;
+  early = λ t h. (inr refl, same);
   refused = λ r. absurd r;
-  possible = tt;
-  disk_cause = record { later = u.disk_later; rose = λ e. absurd (cc e) };
-  out_cause = record { later = u.out_later; rose = λ e. absurd (cc e) };
-  disk_count = λ e. absurd (cc e);
-  out_count = λ e. absurd (cc e);
-  memory_counts = λ _. (disk, out);
-}
+  fault = λ e. absurd (cc e);
+  memory = λ _. (disk, out);
+})
 
--- the container failed, and nothing was written
+-- the container failed
 pub fault_kept : (p : Promise) (old new : Seen) → ((t : Status) → IsEarly p t old → ⊥) → Within p.reach old new
-    → new.contents ≡ old.contents → Rose old.disk_faults new.disk_faults
-    → old.disk_faults ≤ new.disk_faults → old.out_faults ≤ new.out_faults → Kept p DiskFault old new
-fault_kept p old new not_early within contents rose disk_later out_later = record {
-  done = λ e. absurd (cc e);
-  front = front_of_nothing (p.plan old.image) old.contents new.contents contents;
-  quiet = λ r. absurd r;
-  quiet_fault = λ _ _. contents;
-  whole = λ w. absurd (elim w [ inl e ↦ cc e | inr e ↦ cc e ]);
-  same = λ r. absurd r;
-  no_memory = λ e. absurd (cc e);
-  within = within;
+    → Quiet old new → Rose old.disk_faults new.disk_faults → Kept p DiskFault old new
+fault_kept p old new not_early within quiet rose = stopped_kept p DiskFault old new within quiet (record {
+  unfinished = λ w. elim w [ inl e ↦ cc e | inr e ↦ cc e ];
+  plain = tt;
+  same = λ h. absurd (elim h [ inl r ↦ r | inr e ↦ cc e ]);
   early = λ t h. absurd (not_early t h);
   refused = λ r. absurd r;
-  possible = tt;
-  disk_cause = record { later = disk_later; rose = λ _. rose };
-  out_cause = record { later = out_later; rose = λ e. absurd (cc e) };
-  disk_count = λ e. absurd (cc e);
-  out_count = λ e. absurd (cc e);
-  memory_counts = λ e. absurd (cc e);
-}
-
--- the error that a `?` made
-pub err_is : {T E : Type 0} (r : Result T E) (x : E) → IsErrAnd r (λ e. e ≡ x) → r ≡ Err x
-err_is (Ok t) x h = absurd h
-err_is (Err e) x h = ap (λ y. Err y) h
+  fault = λ _. rose;
+  memory = λ e. absurd (cc e);
+})
 
 -- ---- whole work
 
 abbrev Ended : Type 0
 Ended = Result (Unit {0}) WorkError
 
-on_ok : (r : Ended) (P : Type 0) → ended work_status r ≡ Done → OnOk r P → P
-on_ok (Ok done) P e h = h
-on_ok (Err work.DiskFault) P e h = absurd (cc e)
-on_ok (Err work.OutFault) P e h = absurd (cc e)
-on_ok (Err work.NoMemory) P e h = absurd (cc e)
+-- the end of a status
+abbrev end_of : Status → Ended
+end_of Done = Ok tt
+end_of DiskFault = Err work.DiskFault
+end_of OutFault = Err work.OutFault
+end_of s = Err work.NoMemory
 
-of_ok : (r : Ended) (P : Type 0) → IsOk r → OnOk r P → P
-of_ok (Ok done) P ok h = h
-of_ok (Err error) P ok h = absurd (cc ok)
+end_is : (r : Ended) → end_of (ended work_status r) ≡ r
+end_is (Ok done) = refl
+end_is (Err work.DiskFault) = refl
+end_is (Err work.OutFault) = refl
+end_is (Err work.NoMemory) = refl
 
-on_disk : (r : Ended) → ended work_status r ≡ DiskFault → IsErrOf r work.DiskFault
-on_disk (Ok done) e = absurd (cc e)
-on_disk (Err work.DiskFault) e = refl
-on_disk (Err work.OutFault) e = absurd (cc e)
-on_disk (Err work.NoMemory) e = absurd (cc e)
+by_status : (r : Ended) (s : Status) → ended work_status r ≡ s → r ≡ end_of s
+by_status r s e = sym (end_is r) ∙ ap end_of e
 
-on_out : (r : Ended) → ended work_status r ≡ OutFault → IsErrOf r work.OutFault
-on_out (Ok done) e = absurd (cc e)
-on_out (Err work.DiskFault) e = absurd (cc e)
-on_out (Err work.OutFault) e = refl
-on_out (Err work.NoMemory) e = absurd (cc e)
-
-on_memory : (r : Ended) → ended work_status r ≡ NoMemory → IsErrOf r work.NoMemory
-on_memory (Ok done) e = absurd (cc e)
-on_memory (Err work.DiskFault) e = absurd (cc e)
-on_memory (Err work.OutFault) e = absurd (cc e)
-on_memory (Err work.NoMemory) e = refl
+-- what holds with Ok
+with_done : (r : Ended) (P : Type 0) → ended work_status r ≡ Done → OnOk r P → P
+with_done r P e h = subst (λ (x : Ended). OnOk x P) (by_status r Done e) h
 
 no_refusal : (r : Ended) → IsRefusal (ended work_status r) → ⊥
 no_refusal (Ok done) h = h
@@ -161,6 +143,17 @@ is_plain (Err work.NoMemory) = tt
 pub on_ok_map : {X Y : Type 0} (r : Ended) → (X → Y) → OnOk r X → OnOk r Y
 on_ok_map (Ok done) f h = f h
 on_ok_map (Err error) f h = h
+
+-- what holds if the work ended well holds if the call does
+pub done_after : (r worked : Ended) (P : Type 0) → OnOk r (IsOk worked) → OnOk worked P → OnOk r P
+done_after (Err error) worked P ok h = tt
+done_after (Ok done) (Ok worked) P ok h = h
+done_after (Ok done) (Err error) P ok h = absurd (cc ok)
+
+-- what holds of all bytes
+pub of_known : {P : List ℕ → Type 0} (image : Option (List ℕ)) → ((b : List ℕ) → P b) → IfSome image P
+of_known None h = tt
+of_known (Some b) h = h b
 
 -- ---- a plan that is made of the container's bytes
 
@@ -183,34 +176,22 @@ pub front_goes : (f : List ℕ → Plan) (image old new : Option (List ℕ)) →
 front_goes f None old new h = tt
 front_goes f (Some b) old new h = h b
 
--- a count that isn't what it was rose
-pub rose_of : (before now : ℕ) → before ≤ now → now ≢ before → Rose before now
-rose_of before now later other = omega (arith, later, other)
-
--- what `settle` says of the end r of work that ended so, by the counts d and o when the call began
-pub record Settled (r work_end : Ended) (d o : ℕ) (new : Seen) : Type 0 where
-  pub done : OnOk r (IsOk work_end × (new.disk_faults ≡ d) × (new.out_faults ≡ o))
-  pub disk : IsErrOf r work.DiskFault → IsErrOf work_end work.DiskFault ⊎ (new.disk_faults ≢ d)
-  pub out : IsErrOf r work.OutFault → IsErrOf work_end work.OutFault ⊎ (new.out_faults ≢ o)
-  pub memory : IsErrOf r work.NoMemory → (new.disk_faults ≡ d) × (new.out_faults ≡ o)
-
-pub settled_kept : (p : Promise) (r work_end : Ended) (d o : ℕ) (old new : Seen)
-    → d ≡ old.disk_faults → o ≡ old.out_faults → Settled r work_end d o new
-    → Whole p old new → Within p.reach old new
-    → OnOk work_end (Goes (p.plan old.image) (λ plan. Grows old.contents new.contents plan.output))
+-- the work is whole, and the counts d and o when the call began decide how it ended
+pub settled_kept : (p : Promise) (r : Ended) (d o : ℕ) (old new : Seen) → d ≡ old.disk_faults → o ≡ old.out_faults
+    → Settled r d new.disk_faults o new.out_faults → Whole p old new → Within p.reach old new
+    → OnOk r (Goes (p.plan old.image) (λ plan. Grows old.contents new.contents plan.output))
     → IsFront (p.plan old.image) old.contents new.contents
     → (IsErrOf r work.DiskFault → p.streams ≡ false → new.contents ≡ old.contents)
-    → HasCause old.disk_faults new.disk_faults (IsErrOf work_end work.DiskFault)
-    → HasCause old.out_faults new.out_faults (IsErrOf work_end work.OutFault)
     → Kept p (ended work_status r) old new
-settled_kept p r work_end d o old new d_is o_is settled whole within done front quiet disk out =
-    let counts : ended work_status r ≡ Done → IsOk work_end × (new.disk_faults ≡ d) × (new.out_faults ≡ o)
-    = λ e. on_ok r _ e settled.done in
+settled_kept p r d o old new d_is o_is at_counts whole within done front quiet =
+    let settled : Settled r old.disk_faults new.disk_faults old.out_faults new.out_faults
+    = subst (λ (k : ℕ). Settled r k new.disk_faults old.out_faults new.out_faults) d_is
+    (subst (λ (k : ℕ). Settled r d new.disk_faults k new.out_faults) o_is at_counts) in
     record {
-      done = λ e. of_ok work_end _ (counts e).0 done;
+      done = λ e. with_done r _ e done;
       front = front;
       quiet = λ h. absurd (no_refusal r h);
-      quiet_fault = λ e. quiet (on_disk r e);
+      quiet_fault = λ e. quiet (by_status r DiskFault e);
       whole = λ _. whole;
       same = λ h. absurd (no_refusal r h);
       no_memory = λ _. inr whole;
@@ -218,18 +199,25 @@ settled_kept p r work_end d o old new d_is o_is settled whole within done front 
       early = λ t h. absurd (h.refuses whole.admitted);
       refused = λ h. absurd (no_refusal r h);
       possible = is_plain r;
-      disk_cause = record {
-        later = disk.later;
-        rose = λ e. elim (settled.disk (on_disk r e)) [ inl f ↦ disk.rose f | inr other ↦ rose_of old.disk_faults new.disk_faults disk.later (λ same. other (same ∙ sym d_is)) ];
-      };
-      out_cause = record {
-        later = out.later;
-        rose = λ e. elim (settled.out (on_out r e)) [ inl f ↦ out.rose f | inr other ↦ rose_of old.out_faults new.out_faults out.later (λ same. other (same ∙ sym o_is)) ];
-      };
-      disk_count = λ e. (counts e).1 ∙ d_is;
-      out_count = λ e. (counts e).2 ∙ o_is;
-      memory_counts = λ e. let h = settled.memory (on_memory r e) in (h.0 ∙ d_is, h.1 ∙ o_is);
+      disk_cause = record { later = settled.disk_cause.later; rose = λ e. settled.disk_cause.rose (by_status r DiskFault e) };
+      out_cause = record { later = settled.out_cause.later; rose = λ e. settled.out_cause.rose (by_status r OutFault e) };
+      disk_count = λ e. (with_done r _ e settled.counts).0;
+      out_count = λ e. (with_done r _ e settled.counts).1;
+      memory_counts = λ e. settled.memory (by_status r NoMemory e);
     }
+
+-- the same end, as the command returns it: with an error of its own for one of the work, or Ok
+pub passed_on : {E : Type 0} (status : E → Status) (own : WorkError → E) (p : Promise) (old new : Seen) (r : Ended) (e : WorkError)
+    (x : Result (Unit {0}) E) → r ≡ Err e → IsErrAnd x (λ y. y ≡ own e) → status (own e) ≡ work_status e
+    → Kept p (ended work_status r) old new → Kept p (ended status x) old new
+passed_on status own p old new r e (Ok done) is error same kept = absurd error
+passed_on status own p old new r e (Err y) is error same kept =
+    subst (λ (s : Status). Kept p s old new) (sym (ap status error ∙ same))
+    (subst (λ (x : Ended). Kept p (ended work_status x) old new) is kept)
+
+pub all_done : (p : Promise) (old new : Seen) (r : Ended) (u : Unit {0}) → r ≡ Ok u → Kept p (ended work_status r) old new
+    → Kept p Done old new
+all_done p old new r u is kept = subst (λ (x : Ended). Kept p (ended work_status x) old new) is kept
 
 -- ---- without a fault
 

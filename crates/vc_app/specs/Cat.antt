@@ -4,9 +4,13 @@ use Rattle.cascade_set.specs.declared.keys.Keys.{Keys}
 use Rattle.cascade_set.specs.Volume.{plain_sectors}
 use Rattle.header_seal.specs.declared.opened.Opened.{Opened}
 use Rattle.vc_app.specs.declared.commands.cat.Cat.{Cat}
+use Rattle.vc_app.specs.declared.commands.cat.CatError.{CatError}
+use Rattle.vc_app.specs.declared.commands.cat.CatError.TheVariants as cat
+use Rattle.vc_app.specs.declared.status.Status.{Status}
 use Rattle.vc_app.specs.declared.status.Status.TheVariants.{BadSize}
-use Rattle.vc_app.specs.Access.{reading}
-use Rattle.vc_app.specs.Promise.{Outcome, Promise, goes, refused}
+use Rattle.vc_app.specs.Access.{over_opened}
+use Rattle.vc_app.specs.Promise.{Outcome, Promise, goes, nowhere, refused}
+use Rattle.vc_app.specs.Status.{open_status, work_status}
 
 -- the keys of an opened volume
 abbrev pub keys_of : Opened → Keys
@@ -26,4 +30,9 @@ outcome command o image =
     if is_inside command o then goes (record { image = image; output = asked command o image }) else refused BadSize
 
 abbrev pub promise : Cat → Promise
-promise command = reading command.access (BadSize ∷ []) true (outcome command)
+promise command = over_opened command.access (BadSize ∷ []) true nowhere (outcome command)
+
+abbrev pub cat_status : CatError → Status
+cat_status (cat.Open error) = open_status error
+cat_status cat.BadSize = BadSize
+cat_status (cat.Work error) = work_status error

@@ -3,11 +3,13 @@
 --
 -- promise_of arguments        the promise of a command line
 use Rattle.std.specs.Prelude.{List, Option, Some, None}
-use Rattle.cmd_words.specs.Line.{Line, Text, line, cat, format, hide, info}
+use Rattle.cmd_words.specs.Line.{Line, Text, line, cat, format, hide, info, passwd, restore}
 use Rattle.vc_app.specs.Cat as cat_command
 use Rattle.vc_app.specs.Format as format_command
 use Rattle.vc_app.specs.Hide as hide_command
 use Rattle.vc_app.specs.Info as info_command
+use Rattle.vc_app.specs.Passwd as passwd_command
+use Rattle.vc_app.specs.Restore as restore_command
 use Rattle.vc_app.specs.Promise.{Promise, no_command}
 
 abbrev pub promise_of_line : Line → Promise
@@ -21,6 +23,11 @@ promise_of_line (info path password pim kind) =
     info_command.promise (record { password = password; pim = pim; kind = kind })
 promise_of_line (cat path first count password pim kind) =
     cat_command.promise (record { first = first; count = count; access = record { password = password; pim = pim; kind = kind } })
+promise_of_line (passwd path password new random pim new_pim new_prf kind) =
+    passwd_command.promise
+    (record { access = record { password = password; pim = pim; kind = kind }; password = new; pim = new_pim; prf = new_prf }) random
+promise_of_line (restore path password random pim kind) =
+    restore_command.promise (record { password = password; pim = pim; kind = kind }) random
 promise_of_line _ = no_command
 
 abbrev pub promise_by : Option Line → Promise

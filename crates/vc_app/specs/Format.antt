@@ -4,8 +4,12 @@ use Rattle.rand_chacha.specs.ChaCha.{of_seed}
 use Rattle.vc_layout.specs.Layout.{IsFormattable}
 use Rattle.volume_format.specs.Formatted.{formatted}
 use Rattle.volume_format.specs.declared.outer.FormatSpec.{FormatSpec}
+use Rattle.vc_app.specs.declared.commands.format.FormatError.{FormatError}
+use Rattle.vc_app.specs.declared.commands.format.FormatError.TheVariants as format
+use Rattle.vc_app.specs.declared.status.Status.{Status}
 use Rattle.vc_app.specs.declared.status.Status.TheVariants.{BadSize}
 use Rattle.vc_app.specs.Promise.{Plan, Promise, anywhere, goes}
+use Rattle.vc_app.specs.Status.{work_status}
 
 abbrev pub done_line : List ℕ
 done_line = codes "ok" ++ 10 ∷ []
@@ -24,3 +28,7 @@ promise spec random = record {
   length_left = λ len. spec.size;
   streams = false;
 }
+
+abbrev pub format_status : FormatError → Status
+format_status format.BadSize = BadSize
+format_status (format.Work error) = work_status error

@@ -1,12 +1,16 @@
 -- What `hide` promises: the headers of a new hidden volume from the stream of a random key, and the line `ok`.
-use Rattle.std.specs.Prelude.{◌≡◌, ℕ, false, List, [], option_map}
+use Rattle.std.specs.Prelude.{◌≡◌, ℕ, ⊤, false, List, [], option_map}
 use Rattle.rand_chacha.specs.ChaCha.{of_seed}
 use Rattle.vc_layout.specs.Layout.{IsHideable}
-use Rattle.volume_format.specs.Hidden.{formatted_hidden}
+use Rattle.volume_format.specs.Hidden.{formatted_hidden, OnlyHiddenSlots}
 use Rattle.volume_format.specs.declared.hidden.HiddenSpec.{HiddenSpec}
+use Rattle.vc_app.specs.declared.commands.hide.HideError.{HideError}
+use Rattle.vc_app.specs.declared.commands.hide.HideError.TheVariants as hide
+use Rattle.vc_app.specs.declared.status.Status.{Status}
 use Rattle.vc_app.specs.declared.status.Status.TheVariants.{BadSize}
 use Rattle.vc_app.specs.Format.{done_line}
-use Rattle.vc_app.specs.Promise.{Plan, Promise, goes, hidden_slots}
+use Rattle.vc_app.specs.Promise.{Plan, Promise, goes, part}
+use Rattle.vc_app.specs.Status.{work_status}
 
 abbrev pub hidden_plan : HiddenSpec → List ℕ → List ℕ → Plan
 hidden_plan spec random image = record { image = formatted_hidden (of_seed random) spec image; output = done_line }
@@ -18,7 +22,11 @@ promise spec random = record {
   early = λ len s. s ≡ BadSize;
   late = [];
   plan = option_map (λ image. goes (hidden_plan spec random image));
-  reach = hidden_slots;
+  reach = part OnlyHiddenSlots (λ image could c. ⊤);
   length_left = λ len. len;
   streams = false;
 }
+
+abbrev pub hide_status : HideError → Status
+hide_status hide.BadSize = BadSize
+hide_status (hide.Work error) = work_status error

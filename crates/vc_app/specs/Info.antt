@@ -6,8 +6,12 @@ use Rattle.algorithm_names.specs.Algorithms.{name_of}
 use Rattle.vc_layout.specs.Layout.{slot_name}
 use Rattle.header_seal.specs.declared.opened.Opened.{Opened}
 use Rattle.vc_app.specs.declared.access.Access.{Access}
-use Rattle.vc_app.specs.Access.{reading}
-use Rattle.vc_app.specs.Promise.{Promise, goes}
+use Rattle.vc_app.specs.declared.commands.info.InfoError.{InfoError}
+use Rattle.vc_app.specs.declared.commands.info.InfoError.TheVariants as info
+use Rattle.vc_app.specs.declared.status.Status.{Status}
+use Rattle.vc_app.specs.Access.{over_opened}
+use Rattle.vc_app.specs.Promise.{Promise, goes, nowhere}
+use Rattle.vc_app.specs.Status.{open_status, work_status}
 
 -- a name, a space, a value and the end of a line
 abbrev pub text_line : List ℕ → List ℕ → List ℕ
@@ -23,4 +27,8 @@ text_of o =
     ++ text_line (codes "sector") (decimal o.fields.sector)
 
 abbrev pub promise : Access → Promise
-promise access = reading access [] false (λ o image. goes (record { image = image; output = text_of o }))
+promise access = over_opened access [] false nowhere (λ o image. goes (record { image = image; output = text_of o }))
+
+abbrev pub info_status : InfoError → Status
+info_status (info.Open error) = open_status error
+info_status (info.Work error) = work_status error

@@ -12,5 +12,13 @@ pub mod Info
 pub mod Format
 -- what `hide` promises
 pub mod Hide
+-- what writes headers of an opened volume promises
+pub mod Rewriting
+-- what `passwd` promises
+pub mod Passwd
+-- what `restore` promises
+pub mod Restore
 -- the commands, each with its promise
 pub mod Commands
+-- definitions that only private contracts cite
+pub mod Laws

@@ -14,13 +14,12 @@
 -- IsLate p s old       the container's bytes do
 -- Kept p s old new     a call that ended with the status s kept the promise
 -- IsComplete ..        without a fault such a call does what the container's bytes decide
-use Rattle.std.specs.Prelude.{◌≡◌, ◌⊎◌, ◌<◌, ◌-◌, ◌^◌, ℕ, ⊤, Bool, false, List, [], Option, Some, None, IfSome, Contains}
+use Rattle.std.specs.Prelude.{◌≡◌, ◌⊎◌, ◌<◌, ◌-◌, ◌^◌, ℕ, ⊤, Bool, true, false, List, [], Option, Some, None, IfSome, Contains}
 use Rattle.vc_base.specs.Faults.{HasCause}
 use Rattle.vc_outside.specs.Crash.{IsLasting, Outcomes, Stays}
 use Rattle.vc_outside.specs.Told.{Both, Grows, GrowsByFront}
 use Rattle.vc_outside.specs.declared.store.Store as store
 use Rattle.vc_outside.specs.declared.sink.Sink as sink
-use Rattle.volume_format.specs.Hidden.{OnlyHiddenSlots}
 use Rattle.vc_app.specs.declared.status.Status.{Status}
 use Rattle.vc_app.specs.declared.status.Status.TheVariants.{Done, Usage, DiskFault, OutFault, NoMemory}
 use Rattle.vc_app.specs.Status.{IsAfterWork, IsOfPlain, IsRefusal}
@@ -35,10 +34,11 @@ pub data Outcome : Type 0 where
   refused : Status → Outcome
   goes : Plan → Outcome
 
-pub data Reach : Type 0 where
+pub data Reach : Type 1 where
   nowhere : Reach
-  -- the slots of the hidden header and of its backup
-  hidden_slots : Reach
+  -- which bytes may differ, and what holds of each image that a crash may leave at any moment of the call, by the
+  -- bytes before it and by what a crash might leave then
+  part : (List ℕ → List ℕ → Type 0) → (List ℕ → (List ℕ → Type 0) → List ℕ → Type 0) → Reach
   anywhere : Reach
 
 pub record Promise : Type 1 where
@@ -109,20 +109,21 @@ pub record Unchanged (old new : Seen) : Type 0 where
   pub same : Same old new
   pub crash : LeavesNoMore old new
 
--- only bytes of the two slots may differ
-pub record InHiddenSlots (old new : Seen) : Type 0 where
-  pub outside : Both old.image new.image OnlyHiddenSlots
+pub record InPart (only : List ℕ → List ℕ → Type 0) (left : List ℕ → (List ℕ → Type 0) → List ℕ → Type 0) (old new : Seen)
+    : Type 0 where
+  pub outside : Both old.image new.image only
   pub size : new.size ≡ old.size
+  pub crash : new.tells ≡ true → (c : List ℕ) → new.left_since old.moment c → IfSome old.image (λ b. left b old.may_leave c)
 
 abbrev pub Within : Reach → Seen → Seen → Type 0
 Within nowhere old new = Unchanged old new
-Within hidden_slots old new = InHiddenSlots old new
+Within (part only left) old new = Unchanged old new ⊎ InPart only left old new
 Within anywhere old new = ⊤
 
 -- what the command left lasts, if it may change the container
 abbrev pub Lasts : Reach → Seen → Type 0
 Lasts nowhere new = ⊤
-Lasts hidden_slots new = IsLasting new.tells new.image new.may_leave
+Lasts (part only left) new = IsLasting new.tells new.image new.may_leave
 Lasts anywhere new = IsLasting new.tells new.image new.may_leave
 
 -- ---- what a promise means

@@ -4,7 +4,8 @@
 -- IsRefusal s                 a refusal, which leaves everything as it was
 -- IsAfterWork s               the work on the container is whole
 -- IsOfPlain s                 a status of a command that serves no client
--- words_status, .. e          the status of an error; ended f r is that of a result, with f for its errors
+-- words_status, .. e          the status of an error. That of a command's error is in the command's file
+-- ended f r                   the status of a result, with f for its errors
 use Rattle.std.specs.Prelude.{◌≡◌, ◌⊎◌, ℕ, ⊤, Result, Ok, Err}
 use Rattle.header_try.specs.declared.open_error.OpenError.{OpenError}
 use Rattle.header_try.specs.declared.open_error.OpenError.TheVariants as opening
@@ -12,14 +13,6 @@ use Rattle.cmd_words.specs.declared.error.WordsError.{WordsError}
 use Rattle.cmd_words.specs.declared.error.WordsError.TheVariants as reading
 use Rattle.vc_app.specs.declared.counts.WorkError.{WorkError}
 use Rattle.vc_app.specs.declared.counts.WorkError.TheVariants as work
-use Rattle.vc_app.specs.declared.commands.cat.CatError.{CatError}
-use Rattle.vc_app.specs.declared.commands.cat.CatError.TheVariants as cat
-use Rattle.vc_app.specs.declared.commands.info.InfoError.{InfoError}
-use Rattle.vc_app.specs.declared.commands.info.InfoError.TheVariants as info
-use Rattle.vc_app.specs.declared.commands.format.FormatError.{FormatError}
-use Rattle.vc_app.specs.declared.commands.format.FormatError.TheVariants as format
-use Rattle.vc_app.specs.declared.commands.hide.HideError.{HideError}
-use Rattle.vc_app.specs.declared.commands.hide.HideError.TheVariants as hide
 use Rattle.vc_app.specs.declared.status.Status.{Status}
 use Rattle.vc_app.specs.declared.status.Status.TheVariants.{Done, Usage, NoHeader, NoHidden, Length, BadSize, DiskFault, OutFault, NoMemory, ClientCut, ClientMagic, ClientFault}
 
@@ -70,23 +63,6 @@ abbrev pub work_status : WorkError → Status
 work_status work.DiskFault = DiskFault
 work_status work.OutFault = OutFault
 work_status work.NoMemory = NoMemory
-
-abbrev pub cat_status : CatError → Status
-cat_status (cat.Open error) = open_status error
-cat_status cat.BadSize = BadSize
-cat_status (cat.Work error) = work_status error
-
-abbrev pub info_status : InfoError → Status
-info_status (info.Open error) = open_status error
-info_status (info.Work error) = work_status error
-
-abbrev pub format_status : FormatError → Status
-format_status format.BadSize = BadSize
-format_status (format.Work error) = work_status error
-
-abbrev pub hide_status : HideError → Status
-hide_status hide.BadSize = BadSize
-hide_status (hide.Work error) = work_status error
 
 abbrev pub ended : {E : Type 0} → (E → Status) → Result (Unit {0}) E → Status
 ended status (Ok done) = Done

@@ -1,11 +1,11 @@
 //! What opens a volume.
-ghost use Rattle.std.specs.Prelude.{◌≡◌, ◌≢◌, ◌≤◌, ℕ, Err, None, Some, IfOk, IfSome, IsErrOf, OnOk};
-ghost use Rattle.vc_base.specs.Faults.{HasCause};
+ghost use Rattle.std.specs.Prelude.{◌≡◌, ◌≤◌, Some, IfOk, IfSome, OnOk};
 ghost use Rattle.kdf_hmac.specs.Pbkdf2.{IsPim};
 ghost use Rattle.vc_layout.specs.Layout.{IsContainerLength};
 ghost use Rattle.vc_header.specs.Header.{Meets};
 ghost use Rattle.vc_outside.specs.Crash.{Outcomes, Stays};
 ghost use Rattle.vc_app.specs.Access.{opened};
+ghost use Rattle.vc_app.specs.Laws.Unopened.{Unopened};
 
 use header_try::{Kind, OpenError, Opened, open_plain};
 use kdf_hmac::Password;
@@ -24,15 +24,10 @@ impl Access {
     pub fn open<D: Store>(&self, disk: &mut D) -> Result<Opened, OpenError>
         requires { IsPim self.now.pim }
         ensures opened { IfOk result (λ o. IfSome (D.image disk.old) (λ b. opened self.now b ≡ Some o)) }
-        ensures none_valid { IsErrOf result OpenError.NoHeader
-            → IfSome (D.image disk.old) (λ b. opened self.now b ≡ None) }
-        ensures length { (n : ℕ) → IsErrOf result (OpenError.Length n)
-            → (n ≡ D.size disk.old) × ¬ IsContainerLength n }
-        ensures refused { ¬ IsContainerLength (D.size disk.old)
-            → IsErrOf result (OpenError.Length (D.size disk.old)) }
+        ensures unopened { Unopened self.now result (D.image disk.old) (D.size disk.old)
+            (D.faults disk.old) (D.faults disk.new) }
         ensures in_range { OnOk result (IsContainerLength (D.size disk.old)) }
-        ensures cause { HasCause (D.faults disk.old) (D.faults disk.new) (IsErrOf result OpenError.ReadFault) }
-        ensures memory { result ≢ Err OpenError.NoMemory }
+        ensures later { D.faults disk.old ≤ D.faults disk.new }
         ensures meets { IfOk result (λ o. Meets o.fields o.slot (D.size disk.old)) }
         ensures image { D.image disk.new ≡ D.image disk.old }
         ensures size { D.size disk.new ≡ D.size disk.old }

@@ -4,3 +4,5 @@ pub mod cat;
 pub mod format;
 pub mod hide;
 pub mod info;
+pub mod passwd;
+pub mod restore;

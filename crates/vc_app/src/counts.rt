@@ -1,6 +1,10 @@
 //! The counts of faults, from a call's start to its end.
-ghost use Rattle.std.specs.Prelude.{◌≡◌, ◌≢◌, ◌⊎◌, IsOk, IsErrOf, OnOk, MatchBool};
+ghost use Rattle.std.specs.Prelude.{◌≡◌, ◌≢◌, ◌⊎◌, ◌≤◌, IsOk, IsErrOf, OnOk, MatchBool};
+ghost use Rattle.vc_base.specs.Faults.{HasCause};
+ghost use Rattle.vc_outside.specs.Told.{Grows, GrowsByFront};
+ghost use Rattle.vc_app.specs.Laws.Settled.{Settled};
 
+use crate::output::write_all;
 use vc_outside::{Sink, Store};
 
 /// Why the work of a command stopped, once nothing refused it.
@@ -33,7 +37,7 @@ impl Counts {
     }
 
     /// Whether the container's count isn't what it was.
-    pub fn disk_failed<D: Store>(&self, disk: &D) -> bool
+    fn disk_failed<D: Store>(&self, disk: &D) -> bool
         ensures { MatchBool result (D.faults disk.now ≢ self.now.disk) (D.faults disk.now ≡ self.now.disk) }
     {
         disk.faults() != self.disk
@@ -47,14 +51,12 @@ impl Counts {
         out: &O,
         ended: Result<(), WorkError>,
     ) -> Result<(), WorkError>
-        ensures done { OnOk result (IsOk ended
-            × (D.faults disk.now ≡ self.now.disk) × (O.faults out.now ≡ self.now.out)) }
-        ensures disk { IsErrOf result WorkError.DiskFault →
+        requires disk { HasCause self.now.disk (D.faults disk.now) (IsErrOf ended WorkError.DiskFault) }
+        requires out { HasCause self.now.out (O.faults out.now) (IsErrOf ended WorkError.OutFault) }
+        ensures done { OnOk result (IsOk ended) }
+        ensures fault { IsErrOf result WorkError.DiskFault →
             IsErrOf ended WorkError.DiskFault ⊎ (D.faults disk.now ≢ self.now.disk) }
-        ensures out { IsErrOf result WorkError.OutFault →
-            IsErrOf ended WorkError.OutFault ⊎ (O.faults out.now ≢ self.now.out) }
-        ensures memory { IsErrOf result WorkError.NoMemory →
-            (D.faults disk.now ≡ self.now.disk) × (O.faults out.now ≡ self.now.out) }
+        ensures settled { Settled result self.now.disk (D.faults disk.now) self.now.out (O.faults out.now) }
     {
         match ended {
             Err(WorkError::DiskFault) => return Err(WorkError::DiskFault),
@@ -68,5 +70,27 @@ impl Counts {
             return Err(WorkError::OutFault);
         }
         ended
+    }
+
+    /// The end of a call that has done its work on the container, and writes a text. A fault that the container
+    /// recovered from is known before anything is written.
+    pub fn finish<D: Store, O: Sink>(
+        &self,
+        disk: &D,
+        out: &mut O,
+        text: &[u8],
+    ) -> Result<(), WorkError>
+        requires disk { self.now.disk ≤ D.faults disk.now }
+        requires out { self.now.out ≡ O.faults out.old }
+        ensures done { OnOk result (Grows (O.contents out.old) (O.contents out.new) text.now) }
+        ensures front { GrowsByFront (O.contents out.old) (O.contents out.new) text.now }
+        ensures quiet { IsErrOf result WorkError.DiskFault → O.contents out.new ≡ O.contents out.old }
+        ensures settled { Settled result self.now.disk (D.faults disk.now) self.now.out (O.faults out.new) }
+    {
+        if self.disk_failed(disk) {
+            return Err(WorkError::DiskFault);
+        }
+        let written = write_all(out, text);
+        self.settle(disk, out, written)
     }
 }

@@ -10,6 +10,8 @@ use crate::commands::cat::{Cat, run_cat};
 use crate::commands::format::run_format;
 use crate::commands::hide::run_hide;
 use crate::commands::info::run_info;
+use crate::commands::passwd::{Passwd, run_passwd};
+use crate::commands::restore::run_restore;
 use crate::status::Status;
 use cmd_words::{Command, read_words};
 use std::alloc::Global;
@@ -18,7 +20,7 @@ use vc_outside::{Sink, Store};
 use volume_format::{FormatSpec, HiddenSpec};
 
 /// Carries out the command that the arguments are, over a container and an output, and gives both back. So far
-/// the commands are `format`, `hide`, `info` and `cat`.
+/// the commands are `format`, `hide`, `info`, `cat`, `passwd` and `restore`.
 ///
 /// The call keeps the promise of the command. Arguments that are no command of this call have a promise too:
 /// Usage, with nothing touched.
@@ -75,10 +77,7 @@ fn carry_out<D: Store, O: Sink>(
                 size,
                 sector,
             };
-            match run_format(disk, out, &spec, random) {
-                Ok(()) => Status::Done,
-                Err(error) => Status::from(error),
-            }
+            Status::from(run_format(disk, out, &spec, random))
         }
         Command::Hide {
             path: _path,
@@ -98,10 +97,7 @@ fn carry_out<D: Store, O: Sink>(
                 size,
                 sector,
             };
-            match run_hide(disk, out, &spec, random) {
-                Ok(()) => Status::Done,
-                Err(error) => Status::from(error),
-            }
+            Status::from(run_hide(disk, out, &spec, random))
         }
         Command::Info {
             path: _path,
@@ -114,10 +110,7 @@ fn carry_out<D: Store, O: Sink>(
                 pim,
                 kind,
             };
-            match run_info(alloc, disk, out, &access) {
-                Ok(()) => Status::Done,
-                Err(error) => Status::from(error),
-            }
+            Status::from(run_info(alloc, disk, out, &access))
         }
         Command::Cat {
             path: _path,
@@ -137,10 +130,44 @@ fn carry_out<D: Store, O: Sink>(
                 count,
                 access,
             };
-            match run_cat(disk, out, &command) {
-                Ok(()) => Status::Done,
-                Err(error) => Status::from(error),
-            }
+            Status::from(run_cat(disk, out, &command))
+        }
+        Command::Passwd {
+            path: _path,
+            password,
+            new_password,
+            random,
+            pim,
+            new_pim,
+            new_prf,
+            kind,
+        } => {
+            let access = Access {
+                password,
+                pim,
+                kind,
+            };
+            let command = Passwd {
+                access,
+                password: new_password,
+                pim: new_pim,
+                prf: new_prf,
+            };
+            Status::from(run_passwd(disk, out, &command, random))
+        }
+        Command::Restore {
+            path: _path,
+            password,
+            random,
+            pim,
+            kind,
+        } => {
+            let access = Access {
+                password,
+                pim,
+                kind,
+            };
+            Status::from(run_restore(disk, out, &access, random))
         }
         _ => Status::Usage,
     }

@@ -1,11 +1,7 @@
-//! How a call ended: one status for each cause, made from each command's own error.
+//! How a call ended: one status for each cause. A command's own error says beside it which status it is.
 ghost use Rattle.std.specs.Prelude.{◌≡◌};
-ghost use Rattle.vc_app.specs.Status.{cat_status, code_of, format_status, hide_status, info_status, open_status, words_status, work_status};
+ghost use Rattle.vc_app.specs.Status.{code_of, open_status, words_status, work_status};
 
-use crate::commands::cat::CatError;
-use crate::commands::format::FormatError;
-use crate::commands::hide::HideError;
-use crate::commands::info::InfoError;
 use crate::counts::WorkError;
 use cmd_words::WordsError;
 use header_try::OpenError;
@@ -93,51 +89,6 @@ impl From<WorkError> for Status {
             WorkError::DiskFault => Status::DiskFault,
             WorkError::OutFault => Status::OutFault,
             WorkError::NoMemory => Status::NoMemory,
-        }
-    }
-}
-
-impl From<CatError> for Status {
-    ghost from_gives = { λ e s. s ≡ cat_status e };
-
-    fn from(error: CatError) -> Status {
-        match error {
-            CatError::Open(error) => Status::from(error),
-            CatError::BadSize => Status::BadSize,
-            CatError::Work(error) => Status::from(error),
-        }
-    }
-}
-
-impl From<InfoError> for Status {
-    ghost from_gives = { λ e s. s ≡ info_status e };
-
-    fn from(error: InfoError) -> Status {
-        match error {
-            InfoError::Open(error) => Status::from(error),
-            InfoError::Work(error) => Status::from(error),
-        }
-    }
-}
-
-impl From<FormatError> for Status {
-    ghost from_gives = { λ e s. s ≡ format_status e };
-
-    fn from(error: FormatError) -> Status {
-        match error {
-            FormatError::BadSize => Status::BadSize,
-            FormatError::Work(error) => Status::from(error),
-        }
-    }
-}
-
-impl From<HideError> for Status {
-    ghost from_gives = { λ e s. s ≡ hide_status e };
-
-    fn from(error: HideError) -> Status {
-        match error {
-            HideError::BadSize => Status::BadSize,
-            HideError::Work(error) => Status::from(error),
         }
     }
 }

@@ -6,14 +6,15 @@ ghost use Rattle.kdf_hmac.specs.Pbkdf2.{IsPim};
 ghost use Rattle.vc_layout.specs.Layout.{IsSectorSize};
 ghost use Rattle.vc_header.specs.Header.{Meets};
 ghost use Rattle.vc_outside.specs.Told.{Grows, GrowsByFront};
-ghost use Rattle.vc_app.specs.Cat.{asked, promise};
+ghost use Rattle.vc_app.specs.Cat.{asked, cat_status, promise};
 ghost use Rattle.vc_app.specs.declared.commands.cat.CatError.TheVariants.{Open, Work};
 ghost use Rattle.vc_app.specs.Promise.{Kept, LeavesNoMore, seen};
-ghost use Rattle.vc_app.specs.Status.{cat_status, ended};
+ghost use Rattle.vc_app.specs.Status.{ended};
 
 use crate::access::Access;
 use crate::counts::{Counts, WorkError};
 use crate::output::write_all;
+use crate::status::Status;
 use cascade_set::{Keyed, Keys};
 use cipher_base::UnitCipher;
 use header_try::{OpenError, Opened};
@@ -58,6 +59,19 @@ impl From<WorkError> for CatError {
 
     fn from(error: WorkError) -> CatError {
         CatError::Work(error)
+    }
+}
+
+impl From<Result<(), CatError>> for Status {
+    ghost from_gives = { λ r s. s ≡ ended cat_status r };
+
+    fn from(ended: Result<(), CatError>) -> Status {
+        match ended {
+            Ok(()) => Status::Done,
+            Err(CatError::Open(error)) => Status::from(error),
+            Err(CatError::BadSize) => Status::BadSize,
+            Err(CatError::Work(error)) => Status::from(error),
+        }
     }
 }
 

@@ -1,13 +1,13 @@
 //! `format`: a new container with an outer volume.
 ghost use Rattle.std.specs.Prelude.{◌≡◌};
 ghost use Rattle.kdf_hmac.specs.Pbkdf2.{IsPim};
-ghost use Rattle.vc_app.specs.Format.{promise};
+ghost use Rattle.vc_app.specs.Format.{format_status, promise};
 ghost use Rattle.vc_app.specs.declared.commands.format.FormatError.TheVariants.{Work};
 ghost use Rattle.vc_app.specs.Promise.{Kept, seen};
-ghost use Rattle.vc_app.specs.Status.{ended, format_status};
+ghost use Rattle.vc_app.specs.Status.{ended};
 
 use crate::counts::{Counts, WorkError};
-use crate::output::write_all;
+use crate::status::Status;
 use rand_chacha::ChaCha20Rng;
 use rand_core::SeedableRng;
 use vc_outside::{Sink, Store};
@@ -31,6 +31,18 @@ impl From<WorkError> for FormatError {
     }
 }
 
+impl From<Result<(), FormatError>> for Status {
+    ghost from_gives = { λ r s. s ≡ ended format_status r };
+
+    fn from(ended: Result<(), FormatError>) -> Status {
+        match ended {
+            Ok(()) => Status::Done,
+            Err(FormatError::BadSize) => Status::BadSize,
+            Err(FormatError::Work(error)) => Status::from(error),
+        }
+    }
+}
+
 /// Formats the container, from the stream of a random key, and says so.
 pub fn run_format<D: Store, O: Sink>(
     disk: &mut D,
@@ -50,11 +62,6 @@ pub fn run_format<D: Store, O: Sink>(
         Err(OuterError::WriteFault) => return Err(FormatError::Work(WorkError::DiskFault)),
         Err(OuterError::NoMemory) => return Err(FormatError::Work(WorkError::NoMemory)),
     }
-    // A fault that the container recovered from is known before anything is written.
-    if counts.disk_failed(disk) {
-        return Err(FormatError::Work(WorkError::DiskFault));
-    }
-    let written = write_all(out, b"ok\n");
-    counts.settle(disk, out, written)?;
+    counts.finish(disk, out, b"ok\n")?;
     Ok(())
 }

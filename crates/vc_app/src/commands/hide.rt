@@ -1,12 +1,12 @@
 //! `hide`: a hidden volume in a container.
 ghost use Rattle.std.specs.Prelude.{◌≡◌};
 ghost use Rattle.kdf_hmac.specs.Pbkdf2.{IsPim};
-ghost use Rattle.vc_app.specs.Hide.{promise};
+ghost use Rattle.vc_app.specs.Hide.{hide_status, promise};
 ghost use Rattle.vc_app.specs.Promise.{Kept, seen};
-ghost use Rattle.vc_app.specs.Status.{ended, hide_status};
+ghost use Rattle.vc_app.specs.Status.{ended};
 
 use crate::counts::{Counts, WorkError};
-use crate::output::write_all;
+use crate::status::Status;
 use rand_chacha::ChaCha20Rng;
 use rand_core::SeedableRng;
 use vc_outside::{Sink, Store};
@@ -32,6 +32,18 @@ impl From<WorkError> for HideError {
     }
 }
 
+impl From<Result<(), HideError>> for Status {
+    ghost from_gives = { λ r s. s ≡ ended hide_status r };
+
+    fn from(ended: Result<(), HideError>) -> Status {
+        match ended {
+            Ok(()) => Status::Done,
+            Err(HideError::BadSize) => Status::BadSize,
+            Err(HideError::Work(error)) => Status::from(error),
+        }
+    }
+}
+
 /// Makes the hidden volume, from the stream of a random key, and says so.
 pub fn run_hide<D: Store, O: Sink>(
     disk: &mut D,
@@ -51,11 +63,6 @@ pub fn run_hide<D: Store, O: Sink>(
         Err(HiddenError::WriteFault) => return Err(HideError::Work(WorkError::DiskFault)),
         Err(HiddenError::NoMemory) => unreachable!(),
     }
-    // A fault that the container recovered from is known before anything is written.
-    if counts.disk_failed(disk) {
-        return Err(HideError::Work(WorkError::DiskFault));
-    }
-    let written = write_all(out, b"ok\n");
-    counts.settle(disk, out, written)?;
+    counts.finish(disk, out, b"ok\n")?;
     Ok(())
 }

@@ -1,16 +1,16 @@
 //! `info`: what the opened header says.
-ghost use Rattle.std.specs.Prelude.{◌≡◌, ◌++◌, IfOk, IfSome, IsErrOf, OnOk, string_bytes};
-ghost use Rattle.vc_base.specs.Faults.{HasCause};
+ghost use Rattle.std.specs.Prelude.{◌≡◌, ◌≤◌, ◌++◌, IfOk, IfSome, IsErrOf, OnOk, string_bytes};
 ghost use Rattle.kdf_hmac.specs.Pbkdf2.{IsPim};
 ghost use Rattle.vc_outside.specs.Told.{Grows, GrowsByFront};
-ghost use Rattle.vc_app.specs.Info.{promise, text_line, text_of};
+ghost use Rattle.vc_app.specs.Info.{info_status, promise, text_line, text_of};
 ghost use Rattle.vc_app.specs.declared.commands.info.InfoError.TheVariants.{Open, Work};
 ghost use Rattle.vc_app.specs.Promise.{Kept, seen};
-ghost use Rattle.vc_app.specs.Status.{ended, info_status};
+ghost use Rattle.vc_app.specs.Laws.Settled.{Settled};
+ghost use Rattle.vc_app.specs.Status.{ended};
 
 use crate::access::Access;
 use crate::counts::{Counts, WorkError};
-use crate::output::write_all;
+use crate::status::Status;
 use header_try::{OpenError, Opened};
 use std::alloc::{AllocError, Global};
 use std::fmt::Display;
@@ -41,6 +41,18 @@ impl From<WorkError> for InfoError {
     }
 }
 
+impl From<Result<(), InfoError>> for Status {
+    ghost from_gives = { λ r s. s ≡ ended info_status r };
+
+    fn from(ended: Result<(), InfoError>) -> Status {
+        match ended {
+            Ok(()) => Status::Done,
+            Err(InfoError::Open(error)) => Status::from(error),
+            Err(InfoError::Work(error)) => Status::from(error),
+        }
+    }
+}
+
 /// Opens the volume and writes six lines about its header.
 pub fn run_info<D: Store, O: Sink>(
     alloc: Global,
@@ -54,25 +66,28 @@ pub fn run_info<D: Store, O: Sink>(
 {
     let counts = Counts::new(disk, out);
     let opened = access.open(disk)?;
-    // A fault that the container recovered from is known before anything is written.
-    if counts.disk_failed(disk) {
-        return Err(InfoError::Work(WorkError::DiskFault));
-    }
-    let written = write_text(alloc, out, &opened);
-    counts.settle(disk, out, written)?;
+    write_text(alloc, &counts, disk, out, &opened)?;
     Ok(())
 }
 
-// Writes the text about an opened header.
-fn write_text<O: Sink>(alloc: Global, out: &mut O, opened: &Opened) -> Result<(), WorkError>
+// Ends the call with the text about an opened header.
+fn write_text<D: Store, O: Sink>(
+    alloc: Global,
+    counts: &Counts,
+    disk: &D,
+    out: &mut O,
+    opened: &Opened,
+) -> Result<(), WorkError>
+    requires disk { counts.now.disk ≤ D.faults disk.now }
+    requires out { counts.now.out ≡ O.faults out.old }
     ensures done { OnOk result (Grows (O.contents out.old) (O.contents out.new) (text_of opened.now)) }
     ensures front { GrowsByFront (O.contents out.old) (O.contents out.new) (text_of opened.now) }
-    ensures cause { HasCause (O.faults out.old) (O.faults out.new) (IsErrOf result WorkError.OutFault) }
-    ensures not_disk { IsErrOf result WorkError.DiskFault → ⊥ }
+    ensures quiet { IsErrOf result WorkError.DiskFault → O.contents out.new ≡ O.contents out.old }
+    ensures settled { Settled result counts.now.disk (D.faults disk.now) counts.now.out (O.faults out.new) }
 {
     match text(alloc, opened) {
-        Ok(text) => write_all(out, text.as_bytes()),
-        Err(_) => Err(WorkError::NoMemory),
+        Ok(text) => counts.finish(disk, out, text.as_bytes()),
+        Err(_) => counts.settle(disk, out, Err(WorkError::NoMemory)),
     }
 }
 

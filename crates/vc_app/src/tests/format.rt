@@ -176,8 +176,8 @@ static REFUSED: &str = "\
 6;hide|c1.vc|--size|512|--password|x|--random|@
 2;hide|c1.vc|--size|512|--password|x|--random|@|--sector|513
 2;format|c1.vc|--size|262656|--password|x|--random|@|--sector|0
-2;passwd|c1.vc|--password|x|--new|y|--random|@
-2;restore|c1.vc|--password|x|--random|@
+5;passwd|c1.vc|--password|x|--new|y|--random|@
+5;restore|c1.vc|--password|x|--random|@
 2;serve|c1.vc|--password|x
 2;drill|7
 2;";
