@@ -84,7 +84,7 @@ def format_sizes(rows, folder):
             file.write(before)
         rows.row(f"format: {size} bytes over a file", format_words(path, size, HEX), 6)
         remove(path)
-        rows.row(f"format: {size} bytes, none there", format_words(path, size, HEX), 6, left=b"")
+        rows.row(f"format: {size} bytes, none there", format_words(path, size, HEX), 6)
         remove(path)
     for size in [SMALLEST, SMALLEST + SECTOR, 3 * GROUP, (1 << 20) + SECTOR]:
         image = formatted(size, PASSWORD, 1, KEY)
@@ -248,8 +248,10 @@ def format_faults(rows, folder):
         if disk is None:
             return
         path = os.path.join(disk, "full.vc")
-        for name, size in [("full disk", 1 << 20), ("full disk, a file there", 2 << 20)]:
-            rows.row(f"format: {name}", format_words(path, size, HEX), 7, left=ANYTHING)
+        rows.row("format: full disk", format_words(path, 1 << 20, HEX), 7)
+        with open(path, "wb") as file:
+            file.write(b"there before")
+        rows.row("format: full disk, a file there", format_words(path, 2 << 20, HEX), 7, left=ANYTHING)
         words = format_words(path, SMALLEST, HEX)
         rows.row("format: a disk with room", words, 0, b"ok\n", left=image)
 

@@ -116,8 +116,9 @@ def sizes(rows, folder):
             made = os.path.join(folder, "sector.vc")
             rows.row(f"format: {length} bytes with {sector}", format_words(made, length, OUTER_KEY.hex(), *how), status,
                      b"ok\n" if status == 0 else b"",
-                     left=formatted(length, PASSWORD, 1, OUTER_KEY, sector=sector) if status == 0 else b"")
-            os.remove(made)
+                     left=formatted(length, PASSWORD, 1, OUTER_KEY, sector=sector) if status == 0 else None)
+            if status == 0:
+                os.remove(made)
     for sector in ("0", "256", "511", "513", "3072", "8192", "x", ""):
         write(path, outer)
         rows.row(f"hide: sectors of {sector!r}", hide_words(path, 4096, HIDDEN_KEY, "--sector", sector), 2)

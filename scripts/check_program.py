@@ -6,8 +6,9 @@
 PROGRAM defaults to crates/vcserve/out/vcserve. It is not built here: `rt run` in crates/vcserve
 builds it (README.md). Each row runs it once and compares the exit status, the
 standard output, the standard error and the container after it: the same bytes as before, or those
-that `format` and `hide` have to make (check_format.py, check_hidden.py). A row that is wrong is printed; the last line counts
-them. What can't be tried on this machine is printed too.
+that the command has to leave (check_format.py, check_hidden.py, check_change.py). Secrets in files and a
+person's terminal are tried by check_secrets.py and check_terminal.py. A row that is wrong is printed; the
+last line counts them. What can't be tried on this machine is printed too.
 
 The status is 1 if a row is wrong. Otherwise it is 77 if the package `cryptography` is missing,
 which all rows need, or libgcrypt, which those with Serpent and Twofish need.
@@ -19,8 +20,11 @@ import sys
 import tempfile
 import time
 
+import check_change
 import check_format
 import check_hidden
+import check_secrets
+import check_terminal
 from independent_container import GROUP, SECTOR, make, pattern, read
 from program_rows import (LIMIT, LINES, PASSWORD, Rows, differences, differences_left, nobody,
                           words_of)
@@ -424,6 +428,9 @@ def main(words):
         made_containers(rows, folder)
         check_format.check(rows, small, folder)
         check_hidden.check(rows, folder)
+        check_change.check(rows, folder)
+        check_secrets.check(rows, small, folder)
+        check_terminal.check(rows, small, folder)
         sparse(rows, folder)
         memory = "/dev/shm" if os.path.isdir("/dev/shm") else folder
         with tempfile.TemporaryDirectory(dir=memory) as folder_of_memory:

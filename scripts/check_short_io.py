@@ -43,6 +43,8 @@ COMMANDS = [
     ["info", "--backup", "--password", "hidden horse", "--pim", "1"],
     ["cat", "0", "1", "--password", "correct horse", "--pim", "1"],
     ["cat", "0", "1", "--password", "wrong horse", "--pim", "1"],
+    ["passwd", "--password", "correct horse", "--pim", "1", "--new", "new horse", "--new-pim", "1", "--random", KEYS[1]],
+    ["restore", "--password", "new horse", "--pim", "1", "--random", KEYS[0]],
 ]
 
 

@@ -18,6 +18,10 @@ of a hidden volume.
   independent_container.py hide FILE SIZE PASSWORD PIM KEY [--prf NAME] [--algorithm NAME] [--sector N]
       gives the container a hidden volume of SIZE bytes: ChaCha20 under KEY gives the master keys, then
       the salts of the hidden header and of its backup
+  independent_container.py change FILE PASSWORD PIM NEW_PASSWORD NEW_PIM KEY [--hidden] [--restore] [--prf NAME]
+          [--new-prf NAME] [--algorithm NAME]
+      writes the standard headers anew, or with --hidden the hidden ones, under another password: ChaCha20 under
+      KEY gives the salts, first the primary header's. --restore: the primary header alone, from its backup
 
 The PRFs are sha512, the default, and sha256. The algorithms are the names in
 ALGORITHMS, aes by default. The status is 77 if `cryptography` is missing, or libgcrypt
@@ -238,6 +242,17 @@ def hidden(image, size, password, pim, key, prf="sha512", algorithm="aes", secto
     return bytes(image)
 
 
+def changed(image, place, password, pim, key, prf="sha512", algorithm="aes", *, new_password, new_pim, new_prf, restores=False):
+    """The image with the header at this place, or with --restore its backup, written anew in both places or in the first."""
+    image, salts = bytearray(image), random_stream(key, 128)
+    places = [place, len(image) - GROUP + place]
+    head = bytes(image[places[restores]:places[restores] + SECTOR])
+    plain = decipher(derive(password, head[:64], pim, prf, algorithm), 0, head[64:], algorithm)
+    for at, salt in list(zip(places, (salts[:64], salts[64:])))[:1 if restores else 2]:
+        image[at:at + SECTOR] = header(new_password, new_pim, salt, plain, new_prf, algorithm)
+    return bytes(image)
+
+
 def read(path, first, count, password, pim, prf="sha512", algorithm="aes"):
     """The deciphered sectors; None if the header is not valid."""
     fields = header_fields(path, 0, password, pim, prf, algorithm)
@@ -256,15 +271,20 @@ def arguments():
                                   formatter_class=argparse.RawDescriptionHelpFormatter)
     commands = top.add_subparsers(dest="command", required=True)
     for command, words in [("make", "size password pim"), ("cat", "first count password pim"),
-                           ("format", "size password pim key"), ("hide", "size password pim key")]:
+                           ("format", "size password pim key"), ("hide", "size password pim key"),
+                           ("change", "password pim new_password new_pim key")]:
         parser = commands.add_parser(command)
         parser.add_argument("file")
         for word in words.split():
-            parser.add_argument(word, type={"password": str, "key": bytes.fromhex}.get(word, int))
+            parser.add_argument(word, type={"password": str, "new_password": str, "key": bytes.fromhex}.get(word, int))
         parser.add_argument("--prf", choices=PRFS, default=PRFS[0])
         parser.add_argument("--algorithm", choices=ALGORITHMS, default="aes")
         if command == "make":
             parser.add_argument("--zeros", action="store_true")
+        if command == "change":
+            parser.add_argument("--hidden", action="store_true")
+            parser.add_argument("--restore", action="store_true")
+            parser.add_argument("--new-prf", choices=PRFS, default=None)
         if command in ("format", "hide"):
             parser.add_argument("--sector", type=int, default=SECTOR)
     return top.parse_args()
@@ -284,6 +304,12 @@ def main(a):
     elif a.command == "hide":
         with open(a.file, "r+b") as file:
             image = hidden(file.read(), a.size, a.password, a.pim, a.key, sector=a.sector, **how)
+            file.seek(0)
+            file.write(image)
+    elif a.command == "change":
+        with open(a.file, "r+b") as file:
+            image = changed(file.read(), GROUP // 2 if a.hidden else 0, a.password, a.pim, a.key, **how, new_password=a.new_password,
+                            new_pim=a.new_pim, new_prf=a.new_prf or a.prf, restores=a.restore)
             file.seek(0)
             file.write(image)
     else:

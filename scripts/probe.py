@@ -28,8 +28,9 @@ def below(needed):
     return found
 
 
-def build(folder, needed, name, source):
-    """The path of the program of this name and source over these crates, built in a folder."""
+def build(folder, needed, name, source, proofs=None):
+    """The path of the program of this name and source over these crates, built in a folder. `proofs`
+    has the texts of its proof files, by their paths below `proofs`, if it needs any."""
     crates = below(needed)
     for crate in crates:
         shutil.copytree(
@@ -42,9 +43,13 @@ def build(folder, needed, name, source):
             file.write(f"{crate}: {' '.join(deps)}\n")
         file.write(f"{name}: {' '.join(crates)}\n")
     place = os.path.join(folder, "crates", name)
-    os.makedirs(os.path.join(place, "src"))
-    with open(os.path.join(place, "src", "main.rt"), "w", encoding="utf-8") as file:
-        file.write(source)
+    files = {os.path.join("proofs", path): text for path, text in (proofs or {}).items()}
+    files[os.path.join("src", "main.rt")] = source
+    for path, text in files.items():
+        path = os.path.join(place, path)
+        os.makedirs(os.path.dirname(path), exist_ok=True)
+        with open(path, "w", encoding="utf-8") as file:
+            file.write(text)
     built = subprocess.run(["rt", "run"], cwd=place, capture_output=True, input=b"")
     program = os.path.join(place, "out", name)
     if not os.path.exists(program):

@@ -1,6 +1,7 @@
 """Runs of the built program, each with the status, the output and the file that it has to leave."""
 import hashlib
 import os
+import pty
 import subprocess
 
 # What the program says on the standard error, by its exit status. Status 5 names the length too.
@@ -23,6 +24,18 @@ PASSWORD = "correct horse"
 
 # The file may have any bytes after the run.
 ANYTHING = object()
+
+
+def why_no_terminal():
+    """Why no terminal can be made here, or None."""
+    try:
+        parent, child = pty.openpty()
+        os.ttyname(child)
+        os.close(parent)
+        os.close(child)
+    except OSError as error:
+        return error
+    return None
 
 
 class Rows:

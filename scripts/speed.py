@@ -252,7 +252,7 @@ def enciphering(_program, folder):
     for name in GOALS:
         def seconds(direction, count, number=names.index(name)):
             return processor_time([probe], 0, bytes([number, direction, count]))
-        enciphered, deciphered, none = best(LONG_TURNS, lambda: seconds(0, 64), lambda: seconds(1, 64),
+        enciphered, deciphered, none = best(TURNS, lambda: seconds(0, 64), lambda: seconds(1, 64),
                                             lambda: seconds(0, 0))
         rates = [(64 << 20) / (time - none) / 1e6 for time in (enciphered, deciphered)]
         print(f"enciphering {name}: {rates[0]:.0f} MB/s")

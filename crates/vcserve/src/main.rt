@@ -1,8 +1,8 @@
 //! The program `vcserve`: real files, real output, and nothing else.
 //!
-//! The words go to the top call of `vc_app` with the container that they name and with the standard output.
-//! The status that comes back is the exit status, and where it is not 0, one line on the standard error
-//! says why.
+//! Options that name a file with a secret become the options that they stand for. The arguments then go to
+//! the top call of `vc_app` with the container that they name and with the standard output. The status that
+//! comes back is the exit status, and if it isn't 0, one line on the standard error says why.
 //!
 //! A file that is opened takes the lowest descriptor that is free. Where the standard input, output or
 //! error is closed, that is its number, and what is printed would be written into a container. So
@@ -11,24 +11,79 @@
 
 use cmd_words::{Command, WordsError, read_words};
 use std::fs::File;
+use std::io::IsTerminal;
 use std::process::ExitCode;
 use std::rt::{Env, Files};
 use std::thread::Threads;
 use std::{env, io};
 use vc_app::{Status, run_plain};
-use vc_host::{FileStore, StreamSink};
-use vc_outside::{Failed, Store, SureStore};
+use vc_host::StreamSink;
+use vc_outside::{Store, SureStore};
+
+mod container;
+mod reasons;
+mod secrets;
+mod synopsis;
+
+use crate::container::{Refusal, leave, opened, show_progress, tell_refusal, tell_trouble};
+use crate::reasons::explain;
+use crate::secrets::{SecretError, overwrite, warn, with_secrets};
+
+/// How the program ends.
+#[derive(Clone, Copy)]
+enum Ending {
+    Status(Status),
+    /// The files for clients are odd in number, or the command has no clients.
+    Files,
+    /// An option that names a file with a secret has no path.
+    NoPath,
+    /// A file that has to hold a secret doesn't.
+    SecretFile,
+}
+
+impl From<SecretError> for Ending {
+    fn from(error: SecretError) -> Ending {
+        match error {
+            SecretError::Usage => Ending::NoPath,
+            SecretError::File => Ending::SecretFile,
+            SecretError::NoMemory => Ending::Status(Status::NoMemory),
+        }
+    }
+}
+
+impl Ending {
+    fn code(&self) -> u8 {
+        match self {
+            Ending::Status(status) => status.code(),
+            Ending::Files | Ending::NoPath | Ending::SecretFile => Status::Usage.code(),
+        }
+    }
+}
 
 fn main(rt: HostRuntime) -> ExitCode {
     let kept = keep_standard(&rt);
-    let status = match words(&rt) {
-        Ok(words) if kept.is_ok() => run(&rt, words.as_slice()),
-        Ok(_) => Status::DiskFault,
-        Err(status) => status,
+    let is_person = rt.stderr().is_terminal();
+    let ending = match words(&rt) {
+        Ok(words) if kept.is_ok() => run(&rt, words.as_slice(), is_person),
+        Ok(_) => ended(&rt, Ending::Status(Status::DiskFault), &[], false),
+        Err(status) => ended(&rt, Ending::Status(status), &[], false),
     };
-    // Where the standard error is closed, nothing is left to tell it to.
-    let _ = tell(&rt, status);
-    ExitCode::from(status.code())
+    ExitCode::from(ending.code())
+}
+
+// Tells how the program ends, with the reason if there is a person to read it.
+fn ended<R: Eprint + AllocGlobal>(
+    rt: &R,
+    ending: Ending,
+    words: &[String],
+    is_person: bool,
+) -> Ending {
+    // If the standard error is closed, nothing is left to tell it to.
+    let told = tell(rt, ending);
+    if is_person && told.is_ok() {
+        let _ = explain(rt, ending, words);
+    }
+    ending
 }
 
 // Files that are no container, for those of the descriptors 0 to 2 that are closed. They can only be
@@ -40,7 +95,7 @@ fn keep_standard<R: Files<File = File>>(rt: &R) -> io::Result<(File, File, File)
     Ok((first, second, third))
 }
 
-// The words after the program's name. A word that is not text makes no command.
+// The arguments after the program's name. If one isn't text, they are no command.
 fn words<R: Env + AllocGlobal>(rt: &R) -> Result<Vec<String>, Status> {
     let all = match env::args(rt) {
         Ok(all) => all,
@@ -52,28 +107,37 @@ fn words<R: Env + AllocGlobal>(rt: &R) -> Result<Vec<String>, Status> {
         .map_err(|_| Status::NoMemory)
 }
 
-// The words up to the first one that is `--` make the command. Those after it are pairs of files for the
-// clients of `serve`.
-fn run<R: Files<File = File> + Print + AllocGlobal + Threads + Sync>(
+// The arguments, with the secrets of the files that they name.
+fn run<R: Files<File = File> + Print + Eprint + AllocGlobal + Threads + Sync>(
     rt: &R,
-    all: &[String],
-) -> Status {
-    let end = all.iter().position(|word| word.as_str() == "--");
-    let words = &all[..end.unwrap_or(all.len())];
-    let files = all.len().saturating_sub(words.len() + 1);
-    if files % 2 != 0 || (files > 0 && !is_serve(words)) {
-        return Status::Usage;
+    named: &[String],
+    is_person: bool,
+) -> Ending {
+    if !has_right_files(named) {
+        return ended(rt, Ending::Files, command_in(named), is_person);
     }
-    let container = match read_words(rt.alloc(), words) {
-        Ok(command) => container_of(rt, &command),
-        Err(WordsError::Usage) => Ok(None),
-        Err(WordsError::NoMemory) => return Status::NoMemory,
+    let mut exposed = Vec::new(rt.alloc());
+    let all = match with_secrets(rt, named, &mut exposed) {
+        Ok(all) => all,
+        Err(error) => return ended(rt, Ending::from(error), command_in(named), is_person),
     };
-    match container {
-        Ok(Some(disk)) => call(rt, words, disk),
-        Ok(None) => call(rt, words, SureStore::new(Vec::new(rt.alloc()))),
-        Err(Failed) => Status::DiskFault,
-    }
+    let words = command_in(all.as_slice());
+    let ending = run_command(rt, words, exposed.as_slice(), is_person);
+    overwrite(all);
+    ending
+}
+
+// The arguments up to the first one that is `--` are the command. Those after it are pairs of files for the
+// clients of `serve`.
+fn command_in(all: &[String]) -> &[String] {
+    let end = all.iter().position(|word| word.as_str() == "--");
+    &all[..end.unwrap_or(all.len())]
+}
+
+fn has_right_files(all: &[String]) -> bool {
+    let words = command_in(all);
+    let files = all.len().saturating_sub(words.len().saturating_add(1));
+    files % 2 == 0 && (files == 0 || is_serve(words))
 }
 
 fn is_serve(words: &[String]) -> bool {
@@ -83,19 +147,72 @@ fn is_serve(words: &[String]) -> bool {
     }
 }
 
-// The container that the command names. `format` makes it where it is missing.
-fn container_of<R: Files<File = File>>(
+// Warnings of exposed files come after the container was opened: until then the standard error may be the
+// container.
+fn run_command<R: Files<File = File> + Print + Eprint + AllocGlobal + Threads + Sync>(
+    rt: &R,
+    words: &[String],
+    exposed: &[String],
+    is_person: bool,
+) -> Ending {
+    match read_words(rt.alloc(), words) {
+        Ok(command) => match command.path() {
+            Some(path) => run_over_file(rt, &command, path, words, exposed, is_person),
+            None => run_over_nothing(rt, words, exposed, is_person),
+        },
+        Err(WordsError::Usage) => run_over_nothing(rt, words, exposed, is_person),
+        Err(WordsError::NoMemory) => {
+            ended(rt, Ending::Status(Status::NoMemory), words, is_person)
+        }
+    }
+}
+
+fn run_over_file<R: Files<File = File> + Print + Eprint + AllocGlobal + Threads + Sync>(
     rt: &R,
     command: &Command,
-) -> Result<Option<FileStore>, Failed> {
-    let Some(path) = command.path() else {
-        return Ok(None);
-    };
-    let disk = match command {
-        Command::Format { .. } => FileStore::create(rt, path)?,
-        _ => FileStore::open(rt, path)?,
-    };
-    Ok(Some(disk))
+    path: &str,
+    words: &[String],
+    exposed: &[String],
+    is_person: bool,
+) -> Ending {
+    match opened(rt, command, path) {
+        Ok(mut disk) => {
+            warn(rt, exposed);
+            if is_person {
+                // A terminal that can't be opened shows no progress.
+                let _ = show_progress(rt, command, &mut disk);
+            }
+            let (status, mut disk) = call(rt, words, disk);
+            disk.end_progress();
+            leave(rt, status, &disk);
+            let ending = ended(rt, Ending::Status(status), words, is_person);
+            if is_person {
+                let _ = tell_trouble(rt, path, &disk);
+            }
+            ending
+        }
+        // The line would be written into the container.
+        Err(Refusal::OwnError) => Ending::Status(Status::DiskFault),
+        Err(refusal) => {
+            warn(rt, exposed);
+            let ending = ended(rt, Ending::Status(Status::DiskFault), words, is_person);
+            if is_person {
+                let _ = tell_refusal(rt, path, &refusal);
+            }
+            ending
+        }
+    }
+}
+
+fn run_over_nothing<R: Print + Eprint + AllocGlobal + Threads + Sync>(
+    rt: &R,
+    words: &[String],
+    exposed: &[String],
+    is_person: bool,
+) -> Ending {
+    warn(rt, exposed);
+    let (status, _) = call(rt, words, SureStore::new(Vec::new(rt.alloc())));
+    ended(rt, Ending::Status(status), words, is_person)
 }
 
 // The top call over the standard output.
@@ -103,13 +220,18 @@ fn call<R: Print + AllocGlobal + Threads + Sync, D: Store + Drop>(
     rt: &R,
     words: &[String],
     disk: D,
-) -> Status {
+) -> (Status, D) {
     let out = StreamSink::new(io::writer(rt));
-    let (status, _, _) = run_plain(rt, rt.alloc(), words, disk, out);
-    status
+    let (status, disk, _) = run_plain(rt, rt.alloc(), words, disk, out);
+    (status, disk)
 }
 
-fn tell<R: Eprint>(rt: &R, status: Status) -> io::Result<()> {
+fn tell<R: Eprint>(rt: &R, ending: Ending) -> io::Result<()> {
+    let status = match ending {
+        Ending::Status(status) => status,
+        Ending::Files | Ending::NoPath => Status::Usage,
+        Ending::SecretFile => return eprintln!(rt; "vcserve: secret file"),
+    };
     match status {
         Status::Done => Ok(()),
         Status::Usage => eprintln!(rt; "vcserve: usage"),

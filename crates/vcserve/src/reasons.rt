@@ -1,0 +1,176 @@
+//! What a person at a terminal is told after the line that says why the program failed. No secret of a file and no
+//! value of an option is told.
+use crate::Ending;
+use crate::synopsis::{COMMANDS, synopsis_of};
+use cmd_words::{Fault, Reason, read_words, reason_of};
+use std::io;
+use vc_app::Status;
+
+/// Tells what can have been the reason, for these arguments up to `--`.
+pub(crate) fn explain<R: Eprint + AllocGlobal>(
+    rt: &R,
+    ending: Ending,
+    words: &[String],
+) -> io::Result<()> {
+    let command = match words.first() {
+        Some(word) => word.as_str(),
+        None => "",
+    };
+    match ending {
+        Ending::Files => {
+            eprintln!(rt; "  after `--` come pairs of files for the clients of serve")?;
+            tell_synopsis(rt, command)
+        }
+        Ending::NoPath => eprintln!(rt;
+            "  an option that names a file needs a path that doesn't begin with `-`"
+        ),
+        Ending::SecretFile => {
+            eprintln!(rt;
+                "  a file has to hold a password of 1 to 128 bytes of UTF-8, or a key of 32 bytes"
+            )
+        }
+        Ending::Status(Status::Usage) => explain_usage(rt, command, words),
+        Ending::Status(Status::NoHeader) => {
+            eprintln!(rt;
+                "  a wrong password or PIM, another hash than sha512 and sha256, a cipher that isn't in the manual page,"
+            )?;
+            eprintln!(rt;
+                "  a damaged header, or a container that was cut short all look like this"
+            )?;
+            if command == "restore" {
+                return eprintln!(rt;
+                    "  --kind hidden tries the hidden volume's backup header alone"
+                );
+            }
+            eprintln!(rt;
+                "  --backup tries the backup headers, --kind hidden the hidden volume's header alone"
+            )
+        }
+        Ending::Status(Status::Length(_)) => {
+            eprintln!(rt; "  a container has 262656 to 1152921504606846976 bytes")
+        }
+        Ending::Status(Status::BadSize) => explain_size(rt, command),
+        _ => Ok(()),
+    }
+}
+
+/// Tells how every command is written.
+pub(crate) fn tell_all<R: Eprint>(rt: &R) -> io::Result<()> {
+    for command in COMMANDS {
+        tell_synopsis(rt, command)?;
+    }
+    eprintln!(rt; "  a secret can be in a file: --password-file PATH, --random-file /dev/urandom")
+}
+
+/// Whether a person asks for help.
+pub(crate) fn is_help(words: &[String]) -> bool {
+    match words.first() {
+        Some(word) => matches!(word.as_str(), "help" | "--help" | "-h"),
+        None => true,
+    }
+}
+
+fn tell_synopsis<R: Eprint>(rt: &R, command: &str) -> io::Result<()> {
+    match synopsis_of(command) {
+        Some(synopsis) => eprintln!(rt; "  {synopsis}"),
+        None => Ok(()),
+    }
+}
+
+fn explain_size<R: Eprint>(rt: &R, command: &str) -> io::Result<()> {
+    match command {
+        "format" => {
+            eprintln!(rt;
+                "  --size is a multiple of --sector, from 262144 plus one sector to 1099511627776"
+            )
+        }
+        "hide" => {
+            eprintln!(rt;
+                "  --size is a multiple of --sector, from one sector to the container's length less 262144"
+            )
+        }
+        _ => eprintln!(rt; "  the volume doesn't have these sectors; info tells its size"),
+    }
+}
+
+fn explain_usage<R: Eprint + AllocGlobal>(
+    rt: &R,
+    command: &str,
+    words: &[String],
+) -> io::Result<()> {
+    if is_help(words) {
+        return tell_all(rt);
+    }
+    if read_words(rt.alloc(), words).is_ok() {
+        return eprintln!(rt; "  {command} isn't built yet");
+    }
+    match reason_of(rt.alloc(), words) {
+        Ok(Some(reason)) => tell_reason(rt, reason)?,
+        _ => {}
+    }
+    tell_synopsis(rt, command)
+}
+
+fn tell_reason<R: Eprint>(rt: &R, reason: Reason<'_>) -> io::Result<()> {
+    match reason {
+        Reason::Nothing => tell_all(rt),
+        Reason::NoCommand(word) => {
+            let name = name_in(word);
+            eprintln!(rt;
+                "  no such command: {name}; there are format, hide, info, cat, passwd and restore"
+            )
+        }
+        Reason::NoOption(word, Some(nearest)) => {
+            let name = name_in(word);
+            eprintln!(rt; "  no such option: {name}; perhaps --{nearest}")
+        }
+        Reason::NoOption(word, None) => {
+            let name = name_in(word);
+            eprintln!(rt; "  no such option: {name}")
+        }
+        Reason::TooMany(word) => eprintln!(rt; "  one position too many: {word}"),
+        Reason::Twice(name) => eprintln!(rt; "  given twice: --{name}"),
+        Reason::NoValue(name) => {
+            eprintln!(rt;
+                "  no value: --{name}; one that begins with `-` is written --{name}=VALUE"
+            )
+        }
+        Reason::FlagValue(name) => eprintln!(rt; "  --{name} has no value"),
+        Reason::NoPosition(name) => eprintln!(rt; "  {name} is missing"),
+        Reason::NoSuchOption(name) => eprintln!(rt; "  --{name} is missing"),
+        Reason::Value(name, fault) => tell_fault(rt, name, fault),
+        Reason::PimAlone => eprintln!(rt; "  --protect-pim needs --protect"),
+        Reason::ProtectHidden => eprintln!(rt; "  --protect and --kind hidden exclude each other"),
+    }
+}
+
+// An option without its value, which may be a secret.
+fn name_in(word: &str) -> &str {
+    match word.split_once('=') {
+        Some((name, _)) => name,
+        None => word,
+    }
+}
+
+fn tell_fault<R: Eprint>(rt: &R, name: &str, fault: Fault) -> io::Result<()> {
+    match fault {
+        Fault::Number => {
+            eprintln!(rt; "  {name} isn't a number of 1 to 20 decimal digits below 2^64")
+        }
+        Fault::Range(least, most) => {
+            eprintln!(rt; "  {name} isn't a number from {least} to {most}")
+        }
+        Fault::Password(len) => eprintln!(rt; "  {name} has {len} bytes and needs 1 to 128"),
+        Fault::Key(len, digits) => {
+            eprintln!(rt; "  {name} has {digits} hexadecimal digits in {len} bytes and needs 64")
+        }
+        Fault::Prf => eprintln!(rt; "  {name} is sha512 or sha256"),
+        Fault::Algorithm => {
+            eprintln!(rt;
+                "  {name} is aes, serpent, twofish, aes-twofish, aes-twofish-serpent, serpent-aes, serpent-twofish-aes or twofish-serpent"
+            )
+        }
+        Fault::Sector => eprintln!(rt; "  {name} is 512, 1024, 2048 or 4096"),
+        Fault::Kind => eprintln!(rt; "  {name} is any, standard or hidden"),
+    }
+}

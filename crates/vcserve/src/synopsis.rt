@@ -1,0 +1,24 @@
+//! How each command is written.
+
+/// The synopsis of a command, if there is such a command.
+pub(crate) fn synopsis_of(name: &str) -> Option<&'static str> {
+    let text = match name {
+        "format" => {
+            "vcserve format PATH --size N --password P --random HEX [--pim N] [--prf NAME] [--algorithm NAME] [--sector N]"
+        }
+        "hide" => {
+            "vcserve hide PATH --size N --password P --random HEX [--pim N] [--prf NAME] [--algorithm NAME] [--sector N]"
+        }
+        "info" => "vcserve info PATH --password P [--pim N] [--kind KIND] [--backup]",
+        "cat" => "vcserve cat PATH FIRST COUNT --password P [--pim N] [--kind KIND] [--backup]",
+        "passwd" => {
+            "vcserve passwd PATH --password P --new P --random HEX [--pim N] [--new-pim N] [--new-prf NAME] [--kind KIND] [--backup]"
+        }
+        "restore" => { "vcserve restore PATH --password P --random HEX [--pim N] [--kind KIND]" }
+        _ => return None,
+    };
+    Some(text)
+}
+
+/// The commands that are built.
+pub(crate) const COMMANDS: [&str; 6] = ["format", "hide", "info", "cat", "passwd", "restore"];

@@ -1,0 +1,405 @@
+"""Rows of check_program.py: what a person at a terminal is told, and what becomes of files.
+
+A mistake is a line of arguments with `|` between two, the status, and what the first line of reasons has to say.
+Without a terminal the same run prints the prescribed line alone.
+"""
+import fcntl
+import os
+import pty
+import resource
+import signal
+import subprocess
+import tempfile
+import time
+
+from check_format import HEX, KEY, SMALLEST, formatted
+from program_rows import LIMIT, LINES, PASSWORD, differences, differences_left, fingerprint, why_no_terminal
+
+FORMAT = f"format|N|--size=262656|--password=x|--random={HEX}"
+MISTAKES = [
+    # commands
+    ("dog", 2, "no such command: dog; there are format, hide, info, cat, passwd and restore"),
+    ("dog|C", 2, "no such command: dog"),
+    ("Info|C|--password=x", 2, "no such command: Info"),
+    ("inf|C|--password=x", 2, "no such command: inf"),
+    ("infos|C|--password=x", 2, "no such command: infos"),
+    ("|C", 2, "no such command: "),
+    ("--password=zebra|info|C", 2, "no such command: --password;"),
+    ("--password-file|P|info|C", 2, "no such command: --password;"),
+    ("drill|7|--password-file|P", 2, "no such option: --password"),
+    ("C|info|--password=x", 2, "no such command: "),
+    ("--version", 2, "no such command: --version"),
+    ("-v", 2, "no such command: -v"),
+    ("drill|7", 2, "drill isn't built yet"),
+    ("serve|C|--password=x", 2, "serve isn't built yet"),
+    ("serve|C|--password=x|--", 2, "serve isn't built yet"),
+    ("serve|C|--password=x|--|a|b", 2, "serve isn't built yet"),
+    # positions
+    ("info", 2, "PATH is missing"),
+    ("info|--password=x", 2, "PATH is missing"),
+    ("format|--size=1|--password=x|--random=H", 2, "PATH is missing"),
+    ("cat|C|--password=x", 2, "FIRST is missing"),
+    ("cat|C|0|--password=x", 2, "COUNT is missing"),
+    ("cat|--password=x", 2, "PATH is missing"),
+    ("info|C|D|--password=x", 2, "one position too many: D"),
+    ("cat|C|0|1|2|--password=x", 2, "one position too many: 2"),
+    ("info|C|--password|correct|horse", 2, "one position too many: horse"),
+    ("format|N|262656|--password=x|--random=H", 2, "one position too many: 262656"),
+    ("drill", 2, "N is missing"),
+    ("drill|7|8", 2, "one position too many: 8"),
+    # options that the command doesn't have
+    ("info|C|--pasword=x", 2, "no such option: --pasword; perhaps --password"),
+    ("info|C|--passwd|x", 2, "no such option: --passwd; perhaps --password"),
+    ("info|C|--pass|x", 2, "no such option: --pass; perhaps --password"),
+    ("info|C|--PASSWORD|x", 2, "no such option: --PASSWORD; perhaps --password"),
+    ("info|C|--PIM|1|--password=x", 2, "no such option: --PIM; perhaps --pim"),
+    ("info|C|--password=x|--pin=1", 2, "no such option: --pin"),
+    ("info|C|--password=x|--type=any", 2, "no such option: --type"),
+    ("info|C|--password=x|--kinds=any", 2, "no such option: --kinds; perhaps --kind"),
+    ("info|C|-p|x", 2, "no such option: -p"),
+    ("info|C|-password|x", 2, "no such option: -password"),
+    ("info|C|---password|x", 2, "no such option: ---password"),
+    ("info|C|-|--password=x", 2, "no such option: -"),
+    ("info|-C|--password=x", 2, "no such option: -C"),
+    ("info|C|--password=x|--size=1", 2, "no such option: --size"),
+    ("info|C|--password=x|--random=H", 2, "no such option: --random"),
+    ("info|C|--password=x|--help", 2, "no such option: --help"),
+    ("info|C|--password=x|-h", 2, "no such option: -h"),
+    ("info|C|--password=x|--=1", 2, "no such option: --"),
+    (f"{FORMAT}|--hash=sha512", 2, "no such option: --hash"),
+    (f"{FORMAT}|--algoritm=aes", 2, "no such option: --algoritm; perhaps --algorithm"),
+    (f"{FORMAT}|--encryption=aes", 2, "no such option: --encryption"),
+    (f"{FORMAT}|--sectors=512", 2, "no such option: --sectors; perhaps --sector"),
+    (f"{FORMAT}|--sector-size=512", 2, "no such option: --sector-size; perhaps --sector"),
+    (f"{FORMAT}|--kind=any", 2, "no such option: --kind"),
+    (f"{FORMAT}|--backup", 2, "no such option: --backup"),
+    (f"{FORMAT}|--quick", 2, "no such option: --quick"),
+    (f"{FORMAT}|--force", 2, "no such option: --force"),
+    ("drill|7|--password=x", 2, "no such option: --password"),
+    # given twice
+    ("info|C|--password=x|--password=y", 2, "given twice: --password"),
+    ("info|C|--password|x|--password=x", 2, "given twice: --password"),
+    ("info|C|--password=x|--pim=1|--pim=1", 2, "given twice: --pim"),
+    ("info|C|--password=x|--backup|--backup", 2, "given twice: --backup"),
+    ("info|C|--password=x|--kind=any|--kind=any", 2, "given twice: --kind"),
+    (f"{FORMAT}|--size=262656", 2, "given twice: --size"),
+    (f"{FORMAT}|--random=H", 2, "given twice: --random"),
+    # no value, and a value too many
+    ("info|C|--password", 2, "no value: --password"),
+    ("info|C|--password|-x", 2, "no value: --password; one that begins with `-` is written --password=VALUE"),
+    ("info|C|--password|--pim=1", 2, "no value: --password"),
+    ("info|C|--password=x|--pim", 2, "no value: --pim"),
+    ("info|C|--password=x|--kind", 2, "no value: --kind"),
+    (f"{FORMAT}|--prf", 2, "no value: --prf"),
+    ("info|C|--password=x|--pim|-1", 2, "no value: --pim"),
+    ("info|C|--password=x|--backup=1", 2, "--backup has no value"),
+    ("info|C|--password=x|--backup=", 2, "--backup has no value"),
+    # missing options
+    ("info|C", 2, "--password is missing"),
+    ("cat|C|0|1", 2, "--password is missing"),
+    ("info|C|--pim=1", 2, "--password is missing"),
+    ("format|N", 2, "--size is missing"),
+    ("format|N|--size=262656", 2, "--password is missing"),
+    ("format|N|--size=262656|--password=x", 2, "--random is missing"),
+    ("hide|C|--password=x|--random=H", 2, "--size is missing"),
+    ("passwd|C|--password=x|--random=H", 2, "--new is missing"),
+    ("restore|C|--password=x", 2, "--random is missing"),
+    # values
+    ("info|C|--password=", 2, "password has 0 bytes and needs 1 to 128"),
+    ("info|C|--password=L", 2, "password has 129 bytes and needs 1 to 128"),
+    ("info|C|--password=x|--pim=", 2, "pim isn't a number from 0 to 2147468"),
+    ("info|C|--password=x|--pim=one", 2, "pim isn't a number from 0 to 2147468"),
+    ("info|C|--password=x|--pim=-1", 2, "pim isn't a number from 0 to 2147468"),
+    ("info|C|--password=x|--pim=2147469", 2, "pim isn't a number from 0 to 2147468"),
+    ("info|C|--password=x|--kind=outer", 2, "kind is any, standard or hidden"),
+    ("info|C|--password=x|--kind=", 2, "kind is any, standard or hidden"),
+    ("info|C|--password=x|--kind=Hidden", 2, "kind is any, standard or hidden"),
+    ("cat|C|x|1|--password=x", 2, "FIRST isn't a number of 1 to 20 decimal digits below 2^64"),
+    ("cat|C|0|1k|--password=x", 2, "COUNT isn't a number of 1 to 20 decimal digits below 2^64"),
+    ("cat|C|0|0x10|--password=x", 2, "COUNT isn't a number"),
+    ("cat|C||1|--password=x", 2, "FIRST isn't a number"),
+    ("cat|C|0|18446744073709551616|--password=x", 2, "COUNT isn't a number"),
+    ("format|N|--size=1M|--password=x|--random=H", 2, "size isn't a number"),
+    ("format|N|--size=|--password=x|--random=H", 2, "size isn't a number"),
+    ("format|N|--size=+1|--password=x|--random=H", 2, "size isn't a number"),
+    ("format|N|--size=1.5|--password=x|--random=H", 2, "size isn't a number"),
+    ("format|N|--size=1|--password=x|--random=", 2, "random has 0 hexadecimal digits in 0 bytes and needs 64"),
+    ("format|N|--size=1|--password=x|--random=0", 2, "random has 1 hexadecimal digits in 1 bytes and needs 64"),
+    ("format|N|--size=1|--password=x|--random=0xff", 2, "random has 3 hexadecimal digits in 4 bytes and needs 64"),
+    (f"format|N|--size=1|--password=x|--random={HEX}0", 2, "random has 65 hexadecimal digits in 65 bytes and needs 64"),
+    (f"format|N|--size=1|--password=x|--random={HEX[1:]}g", 2, "random has 63 hexadecimal digits in 64 bytes and needs 64"),
+    (f"{FORMAT}|--prf=sha256sum", 2, "prf is sha512 or sha256"),
+    (f"{FORMAT}|--prf=SHA512", 2, "prf is sha512 or sha256"),
+    (f"{FORMAT}|--prf=whirlpool", 2, "prf is sha512 or sha256"),
+    (f"{FORMAT}|--algorithm=AES", 2, "algorithm is aes, serpent, twofish"),
+    (f"{FORMAT}|--algorithm=camellia", 2, "algorithm is aes, serpent, twofish"),
+    (f"{FORMAT}|--sector=513", 2, "sector is 512, 1024, 2048 or 4096"),
+    (f"{FORMAT}|--sector=8192", 2, "sector is 512, 1024, 2048 or 4096"),
+    ("drill|4294967296", 2, "N isn't a number from 0 to 4294967295"),
+    ("serve|C|--password=x|--workers=0", 2, "workers isn't a number from 1 to 8"),
+    ("serve|C|--password=x|--helpers=9", 2, "helpers isn't a number from 0 to 8"),
+    ("serve|C|--password=x|--protect-pim=1", 2, "--protect-pim needs --protect"),
+    ("serve|C|--password=x|--protect=y|--kind=hidden", 2, "--protect and --kind hidden exclude each other"),
+    # client files, secret files
+    ("info|C|--password=x|--|a", 2, "after `--` come pairs of files for the clients of serve"),
+    ("info|C|--password=x|--|a|b", 2, "after `--` come pairs of files for the clients of serve"),
+    ("serve|C|--password=x|--|a", 2, "after `--` come pairs of files for the clients of serve"),
+    ("info|C|--password-file", 2, "an option that names a file needs a path"),
+    ("info|C|--password-file|--pim=1", 2, "an option that names a file needs a path"),
+    ("info|C|--password-file|nowhere", "secret file", "a file has to hold a password of 1 to 128 bytes of UTF-8"),
+    ("info|C|--random-file|/dev/urandom", 2, "no such option: --random"),
+    # the container
+    ("info|C|--password=wrong|--pim=1", 3, "a wrong password or PIM, another hash"),
+    ("cat|C|0|1|--password=wrong|--pim=1", 3, "a wrong password or PIM, another hash"),
+    ("passwd|C|--password=wrong|--pim=1|--new=y|--random=H", 3, "a wrong password or PIM, another hash"),
+    ("restore|C|--password=wrong|--pim=1|--random=H", 3, "a wrong password or PIM, another hash"),
+    ("info|E|--password=x|--pim=1", 5, "a container has 262656 to 1152921504606846976 bytes"),
+    ("cat|C|0|2|--password=correct horse|--pim=1", 6, "the volume doesn't have these sectors; info tells its size"),
+    ("format|N|--size=1|--password=x|--random=H", 6, "--size is a multiple of --sector, from 262144 plus one sector"),
+    ("format|N|--size=262657|--password=x|--random=H", 6, "--size is a multiple of --sector"),
+    ("hide|C|--size=1|--password=x|--random=H", 6, "--size is a multiple of --sector, from one sector"),
+    ("info|nowhere|--password=x", 7, "nowhere: open: No such file or directory"),
+    ("info|.|--password=x", 7, ".: it isn't a regular file"),
+    ("info|/dev/null|--password=x", 7, "/dev/null: it isn't a regular file"),
+    ("info||--password=x", 7, "No such file or directory"),
+    ("info|C/x|--password=x", 7, "Not a directory"),
+    (f"format|nowhere/x|--size=262656|--password=x|--random={HEX}", 7, "nowhere/x: open: No such file or directory"),
+]
+
+
+def at_terminal(program, words, folder, stdout=subprocess.PIPE):
+    """A run whose standard error is a terminal: its status, its output, and what it told."""
+    parent, child = pty.openpty()
+    running = subprocess.Popen([program, *words], stdin=subprocess.DEVNULL, stdout=stdout, stderr=child, cwd=folder)
+    os.close(child)
+    told = b""
+    while True:
+        try:
+            piece = os.read(parent, 65536)
+        except OSError:
+            break
+        if not piece:
+            break
+        told += piece
+    os.close(parent)
+    out = running.stdout.read() if running.stdout else None
+    if running.stdout:
+        running.stdout.close()
+    return running.wait(LIMIT), out, told.decode().replace("\r\n", "\n")
+
+
+def mistakes(rows, small, folder):
+    with open(small, "rb") as file:
+        image = file.read()
+    with open(os.path.join(folder, "C"), "wb") as file:
+        file.write(image)
+    open(os.path.join(folder, "E"), "wb").close()
+    with open(os.path.join(folder, "P"), "wb", opener=lambda path, flags: os.open(path, flags, 0o600)) as file:
+        file.write(b"zebra")
+    for line, status, reason in MISTAKES:
+        words = [word.replace("=H", f"={HEX}") if word.endswith("=H") else word.replace("=L", "=" + "a" * 129)
+                 for word in line.split("|")]
+        code = 2 if status == "secret file" else status
+        first = f"vcserve: {status}\n" if status == "secret file" else LINES[status].format(0)
+        done = subprocess.run([rows.program, *words], capture_output=True, stdin=subprocess.DEVNULL, cwd=folder,
+                              timeout=LIMIT)
+        rows.note(f"mistake: {line}", differences(done, code, b"", first))
+        code_there, out, told = at_terminal(rows.program, words, folder)
+        faults = [] if (code_there, out) == (code, b"") else [f"status {code_there}, output {out!r}"]
+        if not told.startswith(first):
+            faults.append(f"{told!r} doesn't begin with {first!r}")
+        reasons = told[len(first):].splitlines()
+        if not 1 <= len(reasons) <= 3:
+            faults.append(f"{len(reasons)} lines of reasons")
+        if reasons and reason not in reasons[0]:
+            faults.append(f"{reasons[0]!r} doesn't have {reason!r}")
+        if any(secret in told for secret in (HEX, "zebra", "a" * 129)):
+            faults.append("a secret is told")
+        if os.path.exists(os.path.join(folder, "N")):
+            faults.append("a container is left")
+            os.remove(os.path.join(folder, "N"))
+        rows.note(f"mistake at a terminal: {line}", faults)
+    rows.note("mistakes: the container", differences_left(os.path.join(folder, "C"), image))
+
+
+def help_at_terminal(rows, folder):
+    for words in ([], ["--help"], ["-h"], ["help"]):
+        status, out, told = at_terminal(rows.program, words, folder)
+        lines = told.splitlines()
+        wanted = [f"vcserve {name} " for name in ("format", "hide", "info", "cat", "passwd", "restore")]
+        faults = [] if (status, out) == (2, b"") else [f"status {status}"]
+        faults += [] if lines[:1] == ["vcserve: usage"] else ["no first line"]
+        faults += [f"no synopsis of {name}" for name in wanted if not any(name in line for line in lines[1:])]
+        rows.note(f"help at a terminal: {words}", faults)
+        done = subprocess.run([rows.program, *words], capture_output=True, stdin=subprocess.DEVNULL, timeout=LIMIT)
+        rows.note(f"help without a terminal: {words}", differences(done, 2, b"", LINES[2]))
+
+
+def progress(rows, folder):
+    """A format of more than 256 MiB shows its progress at a terminal alone, and removes the line at the end."""
+    path = os.path.join(folder, "progress.vc")
+    for size, is_shown in [(256 << 20, False), ((256 << 20) + 512, True)]:
+        words = ["format", path, "--size", str(size), "--password", PASSWORD, "--random", HEX, "--pim", "1"]
+        status, out, told = at_terminal(rows.program, words, folder)
+        faults = [] if (status, out) == (0, b"ok\n") else [f"status {status}, output {out!r}"]
+        lines = told.split("\r")
+        if is_shown and not (len(lines) == 102 and lines[50].startswith("50% (") and lines[101] == "\x1b[K"):
+            faults.append(f"{len(lines)} states of the line, the last {lines[-1]!r}")
+        if not is_shown and told:
+            faults.append(f"{told[:80]!r}")
+        rows.note(f"progress of {size} bytes at a terminal", faults)
+        done = subprocess.run([rows.program, *words], capture_output=True, stdin=subprocess.DEVNULL, timeout=LIMIT)
+        rows.note(f"progress of {size} bytes without one", differences(done, 0, b"ok\n", ""))
+    os.remove(path)
+
+
+def one_writer(rows, small, folder):
+    """A second program is refused while a first one that may write has the container open."""
+    path = os.path.join(folder, "one.vc")
+    size = 64 << 20
+    words = ["format", path, "--size", str(size), "--password", PASSWORD, "--random", HEX]
+    first = subprocess.Popen([rows.program, *words], stdin=subprocess.DEVNULL, stdout=subprocess.PIPE,
+                             stderr=subprocess.PIPE)
+    while not (os.path.exists(path) and os.path.getsize(path)):
+        time.sleep(0.005)
+    others = [("format", words), ("hide", ["hide", path, "--size", "512", "--password", "y", "--random", HEX]),
+              ("info", ["info", path, "--password", PASSWORD]),
+              ("cat", ["cat", path, "0", "1", "--password", PASSWORD]),
+              ("passwd", ["passwd", path, "--password", PASSWORD, "--new", "y", "--random", HEX]),
+              ("restore", ["restore", path, "--password", PASSWORD, "--random", HEX])]
+    for name, more in others:
+        done = subprocess.run([rows.program, *more], capture_output=True, stdin=subprocess.DEVNULL, timeout=LIMIT)
+        is_running = first.poll() is None
+        rows.note(f"{name} during a format", differences(done, 7, b"", LINES[7]) if is_running else ["the first has ended"])
+    out, line = first.communicate(timeout=LIMIT)
+    done = subprocess.CompletedProcess(words, first.returncode, out, line)
+    rows.note("the format that was first", differences(done, 0, b"ok\n", ""))
+    rows.note("mode of a made container", [] if os.stat(path).st_mode & 0o777 == 0o600 else ["it isn't 0600"])
+    os.remove(path)
+    for name, lock, status in [("shared", fcntl.LOCK_SH, 0), ("exclusive", fcntl.LOCK_EX, 7)]:
+        with open(small, "rb") as file:
+            fcntl.flock(file, lock)
+            rows.row(f"info of a container with a lock that is {name}", ["info", small, "--password", PASSWORD, "--pim=1"],
+                     status, b"slot standard\nprf sha512\nalgorithm aes\nstart 131072\nsize 512\nsector 512\n" if status == 0 else b"")
+            rows.row(f"hide with a lock that is {name}", ["hide", small, "--size", "512", "--password", "y", "--random", HEX],
+                     7, kept=small)
+
+
+def own_output(rows, small, folder):
+    """The container as the standard output or the standard error: nothing is written."""
+    path = os.path.join(folder, "own.vc")
+    with open(small, "rb") as file:
+        image = file.read()
+    with open(path, "wb") as file:
+        file.write(image)
+    commands = [["info", path, "--password", PASSWORD, "--pim", "1"],
+                ["cat", path, "0", "1", "--password", PASSWORD, "--pim", "1"],
+                ["hide", path, "--size", "512", "--password", "y", "--random", HEX, "--pim", "1"],
+                ["format", path, "--size", str(SMALLEST), "--password", "y", "--random", HEX, "--pim", "1"],
+                ["passwd", path, "--password", PASSWORD, "--new", "y", "--random", HEX, "--pim", "1"],
+                ["restore", path, "--password", PASSWORD, "--random", HEX, "--pim", "1"]]
+    for words in commands:
+        for mode in ("r+b", "ab"):
+            with open(path, mode) as file:
+                rows.row(f"{words[0]} into its own container, {mode}", words, 7, stdout=file, kept=path)
+        for mode in ("r+b", "ab"):
+            with open(path, mode) as file:
+                rows.row(f"{words[0]} with its container as standard error, {mode}", words, 7, stderr=file, kept=path)
+    # The warning of a password's file that others may read would come first.
+    secret = os.path.join(folder, "exposed")
+    with open(secret, "wb") as file:
+        file.write(PASSWORD.encode())
+    os.chmod(secret, 0o644)
+    for mode in ("r+b", "ab"):
+        with open(path, mode) as file:
+            rows.row(f"info warns of a file, with its container as standard error, {mode}",
+                     ["info", path, "--password-file", secret, "--pim", "1"], 7, stderr=file, kept=path)
+    other = os.path.join(folder, "linked.vc")
+    os.link(path, other)
+    with open(other, "r+b") as file:
+        rows.row("info into its container by another name", commands[0], 7, stdout=file, kept=path)
+
+
+def limit_files(size):
+    def limit():
+        signal.signal(signal.SIGXFSZ, signal.SIG_IGN)
+        resource.setrlimit(resource.RLIMIT_FSIZE, (size, size))
+    return limit
+
+
+def files_of_format(rows, folder):
+    """What is left of a format that fails: a file that it made is removed, one that was there stays."""
+    def words(path, size):
+        return ["format", path, "--size", str(size), "--password", PASSWORD, "--random", HEX, "--pim", "1"]
+
+    for name, size, how, status in [
+        ("refused", 1, {}, 6),
+        ("with a size that is no multiple", SMALLEST + 1, {}, 6),
+        ("on a file system that is full", 1 << 20, {"preexec_fn": limit_files(1 << 19)}, 7),
+    ]:
+        path = os.path.join(folder, "left.vc")
+        rows.row(f"format {name}", words(path, size), status, kept=folder, **how)
+        rows.note(f"format {name}: the file", ["it is left"] if os.path.exists(path) else [])
+        with open(path, "wb") as file:
+            file.write(b"there before")
+        os.chmod(path, 0o640)
+        run = subprocess.run([rows.program, *words(path, size)], capture_output=True, stdin=subprocess.DEVNULL, **how)
+        rows.note(f"format {name}, over a file", differences(run, status, b"", LINES[status]))
+        rows.note(f"format {name}: a file that was there", [] if os.path.exists(path) else ["it is gone"])
+        rows.note(f"format {name}: its mode", [] if os.stat(path).st_mode & 0o777 == 0o640 else ["it has changed"])
+        os.remove(path)
+    target, link = os.path.join(folder, "target"), os.path.join(folder, "link")
+    os.symlink(target, link)
+    rows.row("format refused, by a link to nothing yet", words(link, 1), 6, kept=target)
+    rows.note("format by a link: its target", ["it is left"] if os.path.exists(target) else [])
+    rows.note("format by a link: the link", [] if os.path.islink(link) else ["it is gone"])
+    path = os.path.join(folder, "interrupted.vc")
+    large = ["format", path, "--size", str(64 << 20), "--password", PASSWORD, "--random", HEX]
+    # A shell's background job ignores the signal, and so would the program that it starts.
+    running = subprocess.Popen([rows.program, *large], stdin=subprocess.DEVNULL, stdout=subprocess.PIPE,
+                               preexec_fn=lambda: signal.signal(signal.SIGINT, signal.SIG_DFL))
+    while not os.path.exists(path):
+        time.sleep(0.005)
+    running.send_signal(signal.SIGINT)
+    rows.note("format interrupted", [] if running.wait(LIMIT) == -signal.SIGINT else ["it wasn't"])
+    rows.note("format interrupted: its output", ["it says ok"] if running.stdout.read() else [])
+    running.stdout.close()
+    rows.row("format after one that was interrupted", words(path, SMALLEST), 0, b"ok\n",
+             left=formatted(SMALLEST, PASSWORD, 1, KEY))
+
+
+def opened_to_read(rows, small):
+    """`info` and `cat` open the container for reading alone: they read what the running program has open."""
+    for words in (["info", small, "--password", PASSWORD], ["cat", small, "0", "1", "--password", PASSWORD]):
+        running = subprocess.Popen([rows.program, *words], stdin=subprocess.DEVNULL, stdout=subprocess.PIPE,
+                                   stderr=subprocess.PIPE)
+        flags = None
+        while running.poll() is None and flags is None:
+            flags = flags_of(running.pid, small)
+        running.communicate(timeout=LIMIT)
+        wrong = "it wasn't seen open" if flags is None else f"it is open with {flags:o}"
+        rows.note(f"{words[0]} can't write", [] if flags is not None and flags & 3 == os.O_RDONLY else [wrong])
+
+
+def flags_of(pid, path):
+    try:
+        for number in os.listdir(f"/proc/{pid}/fd"):
+            if os.path.realpath(f"/proc/{pid}/fd/{number}") == os.path.realpath(path):
+                with open(f"/proc/{pid}/fdinfo/{number}", encoding="ascii") as file:
+                    return next(int(line.split()[1], 8) for line in file if line.startswith("flags:"))
+    except OSError:
+        pass
+    return None
+
+
+def check(rows, small, folder):
+    parts = [(one_writer, True), (own_output, True), (files_of_format, False)]
+    why = why_no_terminal()
+    if why:
+        rows.leave_out("rows at a terminal", why)
+    else:
+        parts = [(mistakes, True), (help_at_terminal, False), (progress, False), *parts]
+    for part, more in parts:
+        with tempfile.TemporaryDirectory(dir=folder) as place:
+            part(rows, small, place) if more else part(rows, place)
+    opened_to_read(rows, small)
