@@ -1,4 +1,5 @@
 -- The end of a walk over the arguments, and a walk over arguments that name no file.
+use Rattle.std.specs.Prelude.{option_map}
 use Rattle.std.proofs.Common.{◌≡◌, ◌≢◌, ◌∙◌, ◌≤◌, ℕ, ap, sym, refl, arith, List, [], ◌∷◌, true, Some, None, map, drop, length}
 use Rattle.std.proofs.lemmas.List.{drop_all, append-nil}
 use Rattle.std.specs.List.{list_all}
@@ -62,3 +63,15 @@ pub filled_whole : {A : Type 0} (f : A → Part) (words : List Text) (i : ℕ) (
 unfolding filled
 filled_whole f words i xs secrets left past walked =
     walked ∙ ap (λ ys. after words (filled (map f ys) left)) (drop_all i xs past) ∙ found_all words
+
+-- ---- filling where nothing is to be filled in
+
+filled_plain : (words secrets : List Text) → filled (map (λ w. plain w) words) secrets ≡ Some words
+unfolding filled
+filled_plain [] secrets = refl
+filled_plain (word ∷ words) secrets = ap (λ o. option_map (λ ws. word ∷ ws) o) (filled_plain words secrets)
+
+pub filled_unchanged : (ps : List Part) (secrets found words : List Text) → filled ps secrets ≡ Some found
+    → ps ≡ map (λ w. plain w) words → found ≡ words
+filled_unchanged ps secrets found words is e =
+    some_same _ _ (sym is ∙ ap (λ qs. filled qs secrets) e ∙ filled_plain words secrets)

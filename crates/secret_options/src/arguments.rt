@@ -116,6 +116,8 @@ pub fn filled(
         filled (map meaning parts.now) (map string_bytes secrets.now) ≡ Some (map string_bytes ws.items)) }
     ensures missing { result ≡ Err ArgumentsError.Missing
         → filled (map meaning parts.now) (map string_bytes secrets.now) ≡ None }
+    ensures unchanged { (words : List (List ℕ)) → map meaning parts.now ≡ map (λ w. plain w) words
+        → IfOk result (λ ws. map string_bytes ws.items ≡ words) }
 {
     let mut words = Vec::new(alloc);
     let mut left = secrets;
