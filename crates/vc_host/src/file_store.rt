@@ -59,9 +59,7 @@ impl FileStore {
     {
         if matches!(purpose, Purpose::Making) {
             if let Some(file) = new_file(rt, path)? {
-                let mut store = FileStore::over(file, Purpose::Making)?;
-                store.is_made = true;
-                return Ok(store);
+                return FileStore::over_made(rt, path, file);
             }
         }
         // To open a pipe would wait for its other end.
@@ -108,10 +106,7 @@ impl FileStore {
 
     // Removes the file at a path, if that names this one without a link.
     fn remove_at<R: Files<File = File>>(&self, rt: &R, path: &str) -> io::Result<()> {
-        if self.is_of(&fs::symlink_metadata(rt, path)?) {
-            fs::remove_file(rt, path)?;
-        }
-        Ok(())
+        remove_same(rt, path, &self.file.metadata()?)
     }
 
     /// Removes a file that `create` made, and only that, if its name is known and still names it.
@@ -124,17 +119,33 @@ impl FileStore {
 
     /// Whether a path names this file, as `/dev/stdout` does if the standard output goes there.
     pub fn is_at<R: Files<File = File>>(&self, rt: &R, path: &str) -> bool {
-        match fs::metadata(rt, path) {
-            Ok(that) => self.is_of(&that),
-            Err(_) => false,
+        match (self.file.metadata(), fs::metadata(rt, path)) {
+            (Ok(this), Ok(that)) => is_same(&this, &that),
+            _ => false,
         }
     }
 
-    // Whether this is about this file.
-    fn is_of(&self, that: &Metadata) -> bool {
-        match self.file.metadata() {
-            Ok(this) => this.dev() == that.dev() && this.ino() == that.ino(),
-            Err(_) => false,
+    // A store over a file that was made at a path. If that file can't be locked or looked at, it is removed again,
+    // unless another program has locked it meanwhile. By a link it is left.
+    fn over_made<R: Files<File = File>>(
+        rt: &R,
+        path: &str,
+        file: File,
+    ) -> Result<FileStore, Obstacle>
+        ensures { IfOk result (λ s. ⟦<FileStore as Store>⟧.faults s ≡ 0) }
+    {
+        let made = file.metadata()?;
+        match FileStore::over(file, Purpose::Making) {
+            Ok(mut store) => {
+                store.is_made = true;
+                Ok(store)
+            }
+            Err(obstacle) => {
+                if !matches!(obstacle, Obstacle::Locked) {
+                    let _ = remove_same(rt, path, &made);
+                }
+                Err(obstacle)
+            }
         }
     }
 
@@ -223,6 +234,19 @@ impl FileStore {
         self.trouble = Some(Trouble { call, error });
         Failed
     }
+}
+
+// Whether both are about one file.
+fn is_same(this: &Metadata, that: &Metadata) -> bool {
+    this.dev() == that.dev() && this.ino() == that.ino()
+}
+
+// Removes the file at a path, if that names the file that this is about, without a link.
+fn remove_same<R: Files<File = File>>(rt: &R, path: &str, this: &Metadata) -> io::Result<()> {
+    if is_same(this, &fs::symlink_metadata(rt, path)?) {
+        fs::remove_file(rt, path)?;
+    }
+    Ok(())
 }
 
 // A new file for its owner alone, if there is none at a path. A link may lead to a file that is missing.

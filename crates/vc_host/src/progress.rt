@@ -48,8 +48,10 @@ impl Progress {
         }
     }
 
-    /// Removes the line.
+    /// Removes the line, if there is one.
     pub(crate) fn remove(&mut self) {
-        let _ = self.terminal.write_all(b"\r\x1b[K");
+        if self.percent > 0 {
+            let _ = self.terminal.write_all(b"\r\x1b[K");
+        }
     }
 }

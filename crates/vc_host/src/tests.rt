@@ -194,6 +194,8 @@ fn a_long_write_is_told_by_the_hundredth_and_the_line_is_removed(rt: HostRuntime
     for (total, want) in [
         (256 << 20, ""),
         (400, ""),
+        // less than 1 per cent, so no line
+        (1 << 30, ""),
         // 1 per cent is 3 MiB, of 4 that are written
         (300 << 20, "\r1% (3145728 of 314572800 bytes)\r\x1b[K"),
     ] {
