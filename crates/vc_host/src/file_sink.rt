@@ -2,6 +2,8 @@
 ghost use Rattle.std.specs.Prelude.{◌≡◌, ◌≤◌, None, length, IfOk, OnErr, OnOk, IsErr, IsErrOf};
 ghost use Rattle.vc_base.specs.Faults.{HasCause};
 
+use crate::file_store::FileStore;
+use crate::obstacle::Obstacle;
 use crate::stream_sink::StreamSink;
 use std::fs::{File, OpenOptions};
 use std::rt::Files;
@@ -25,10 +27,34 @@ impl FileSink {
             .truncate(true)
             .open(rt, path);
         match opened {
-            Ok(file) => Ok(FileSink {
-                stream: StreamSink::new(file),
-            }),
+            Ok(file) => Ok(FileSink::over(file)),
             Err(_) => Err(Failed),
+        }
+    }
+
+    /// Opens a file as `open` does, but refuses the container, before anything is emptied. Says what is in the
+    /// way.
+    pub fn open_beside<R: Files<File = File>>(
+        rt: &R,
+        path: &str,
+        container: &FileStore,
+    ) -> Result<FileSink, Obstacle>
+        ensures { IfOk result (λ s. ⟦<FileSink as Sink>⟧.faults s ≡ 0) }
+    {
+        let file = OpenOptions::new().write(true).create(true).open(rt, path)?;
+        container.refuse_own(&file)?;
+        // A pipe or a device has no length.
+        if file.metadata()?.is_file() {
+            file.set_len(0)?;
+        }
+        Ok(FileSink::over(file))
+    }
+
+    fn over(file: File) -> FileSink
+        ensures { ⟦<FileSink as Sink>⟧.faults result ≡ 0 }
+    {
+        FileSink {
+            stream: StreamSink::new(file),
         }
     }
 }

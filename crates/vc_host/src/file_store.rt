@@ -125,6 +125,14 @@ impl FileStore {
         }
     }
 
+    // Refuses a file that is open for a client, if it is this one by whatever name.
+    pub(crate) fn refuse_own(&self, file: &File) -> Result<(), Obstacle> {
+        if is_same(&self.file.metadata()?, &file.metadata()?) {
+            return Err(Obstacle::Container);
+        }
+        Ok(())
+    }
+
     // A store over a file that was made at a path. If that file can't be locked or looked at, it is removed again,
     // unless another program has locked it meanwhile. By a link it is left.
     fn over_made<R: Files<File = File>>(

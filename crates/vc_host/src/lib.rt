@@ -1,4 +1,4 @@
-//! The real outside: containers and output in files and streams.
+//! The real outside: containers, input and output in files and streams.
 //!
 //! What a file or a stream holds is the system's, and no contract can say it. So contracts know the count
 //! of faults of these types and the length of a `FileStore`, and nothing of their contents, nor of what a
@@ -8,15 +8,19 @@
 #![tactic(auto)]
 
 pub use file_sink::FileSink;
+pub use file_source::FileSource;
 pub use file_store::FileStore;
 pub use obstacle::{Obstacle, Purpose, Trouble};
 pub use stream_sink::StreamSink;
+pub use stream_source::StreamSource;
 
 mod file_name;
 pub mod file_sink;
+pub mod file_source;
 pub mod file_store;
 pub mod obstacle;
 mod progress;
 pub mod stream_sink;
+pub mod stream_source;
 #[cfg(test)]
 mod tests;

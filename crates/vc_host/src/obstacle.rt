@@ -19,6 +19,8 @@ pub enum Obstacle {
     NotRegular,
     /// Another program has it open and may write to it, or reads it and it was to be written.
     Locked,
+    /// It is the container, and was to be a client's file.
+    Container,
     /// The system's reason.
     System(io::Error),
 }

@@ -1,10 +1,12 @@
 //! What no clause says: that the calls reach a real file, and what becomes of a stream's results.
 use super::*;
 use std::fs::{self, File};
-use std::io::{self, ErrorKind, Write};
+use std::io::{self, ErrorKind, Read, Write};
+use std::os::fd::AsRawFd;
 use std::os::unix::fs::MetadataExt;
 use std::rt::Files;
-use vc_outside::{Failed, OutError, Sink, Store, SureStore};
+use std::test::Fail;
+use vc_outside::{Failed, OutError, Sink, Source, Store, SureStore};
 
 // A call that changes a container.
 #[derive(Clone, Copy, Drop)]
@@ -275,4 +277,156 @@ fn only_an_interrupted_call_is_made_again(rt: HostRuntime) {
     assert_eq!(rt; sink.faults(), 2);
     assert_eq!(rt; sink.write(b"taken"), Ok(5));
     assert_eq!(rt; sink.faults(), 2);
+}
+
+// What a call of a reader gives.
+#[derive(Clone, Copy, Drop)]
+enum Given {
+    Bytes(usize),
+    Fails(ErrorKind),
+}
+
+// A reader whose calls give what the list says, and then the end.
+#[derive(Drop)]
+struct Slow {
+    results: [Given; 6],
+    next: usize,
+}
+
+impl Read for Slow {
+    fn read(&mut self, buf: &mut [u8]) -> io::Result<usize> {
+        let result = self.results.get(self.next).copied();
+        self.next = self.next.saturating_add(1);
+        match result {
+            Some(Given::Bytes(given)) => {
+                let given = given.min(buf.len());
+                buf[..given].fill(b'x');
+                Ok(given)
+            }
+            Some(Given::Fails(kind)) => Err(io::Error::from(kind)),
+            None => Ok(0),
+        }
+    }
+}
+
+#[test]
+fn few_bytes_are_no_end_and_an_interrupted_read_is_made_again(rt: HostRuntime) {
+    let mut source = StreamSource::new(Slow {
+        results: [
+            Given::Fails(ErrorKind::Interrupted),
+            Given::Bytes(2),
+            Given::Fails(ErrorKind::Interrupted),
+            Given::Bytes(1),
+            Given::Fails(ErrorKind::WouldBlock),
+            Given::Bytes(5),
+        ],
+        next: 0,
+    });
+    let mut buf = [b'.'; 4];
+    for (given, shown, faults) in [
+        (Ok(2), b"xx..", 0),
+        (Ok(1), b"xx..", 0),
+        (Err(Failed), b"xx..", 1),
+        (Ok(4), b"xxxx", 1),
+        (Ok(0), b"xxxx", 1),
+    ] {
+        assert_eq!(rt; source.read(&mut buf), given);
+        assert_eq!(rt; (&buf, source.faults()), (shown, faults));
+    }
+}
+
+#[test]
+fn a_file_gives_its_bytes_and_then_the_end(rt: HostRuntime) {
+    let path = "input.tmp";
+    assert!(rt; FileSource::open(&rt, path).is_err(), "a missing file");
+    assert!(rt; FileSource::open(&rt, ".").is_err(), "a folder");
+    assert!(rt; fs::write(&rt, path, "abcdefg").is_ok());
+    let Ok(mut source) = FileSource::open(&rt, path) else {
+        return assert!(rt; false, "not opened");
+    };
+    let mut buf = [b'.'; 4];
+    for (given, shown) in [(4, b"abcd"), (3, b"efgd"), (0, b"efgd"), (0, b"efgd")] {
+        assert_eq!(rt; source.read(&mut buf), Ok(given));
+        assert_eq!(rt; (&buf, source.faults()), (shown, 0));
+    }
+    assert!(rt; fs::remove_file(&rt, path).is_ok());
+    // Its first page can't be read.
+    let Ok(mut source) = FileSource::open(&rt, "/proc/self/mem") else {
+        return assert!(rt; false, "not opened");
+    };
+    assert_eq!(rt; (source.read(&mut buf), source.faults()), (Err(Failed), 1));
+    assert_eq!(rt; (source.read(&mut buf), source.faults()), (Err(Failed), 2));
+}
+
+#[test]
+fn a_pipe_gives_what_is_there_until_its_writer_is_gone(rt: HostRuntime) -> Result<(), Fail> {
+    let (reader, writer) = io::pipe(&rt)?;
+    // A pipe that has a name, at which it is opened again.
+    let from = format!(in rt.alloc(); "/proc/self/fd/{}", reader.as_raw_fd())?;
+    let to = format!(in rt.alloc(); "/proc/self/fd/{}", writer.as_raw_fd())?;
+    let (Ok(mut sink), Ok(mut source)) = (
+        FileSink::open(&rt, to.as_str()),
+        FileSource::open(&rt, from.as_str()),
+    ) else {
+        assert!(rt; false, "not opened");
+        return Ok(());
+    };
+    drop(reader);
+    drop(writer);
+    let mut buf = [b'.'; 8];
+    for (piece, shown) in [
+        (b"few".as_slice(), b"few....."),
+        (b"and more", b"and more"),
+        (b"!", b"!nd more"),
+    ] {
+        assert_eq!(rt; sink.write(piece), Ok(piece.len()));
+        assert_eq!(rt; source.read(&mut buf), Ok(piece.len()));
+        assert_eq!(rt; &buf, shown);
+    }
+    assert_eq!(rt; sink.write(b"last"), Ok(4));
+    drop(sink);
+    assert_eq!(rt; source.read(&mut buf), Ok(4));
+    assert_eq!(rt; source.read(&mut buf), Ok(0), "the end");
+    assert_eq!(rt; source.faults(), 0);
+    Ok(())
+}
+
+#[test]
+fn a_file_of_a_client_is_not_the_container(rt: HostRuntime) {
+    let (path, other, client) = ("beside.tmp", "beside_link.tmp", "beside_client.tmp");
+    let Ok(mut container) = FileStore::create(&rt, path) else {
+        return assert!(rt; false, "not made");
+    };
+    assert_eq!(rt; container.set_len(9), Ok(()));
+    assert!(rt; fs::hard_link(&rt, path, other).is_ok());
+    for name in [path, "./beside.tmp", other] {
+        let source = FileSource::open_beside(&rt, name, &container);
+        assert!(rt; matches!(source, Err(Obstacle::Container)), "{name}");
+        let sink = FileSink::open_beside(&rt, name, &container);
+        assert!(rt; matches!(sink, Err(Obstacle::Container)), "{name}");
+        let len = fs::metadata(&rt, path).map(|metadata| metadata.len());
+        assert!(rt; matches!(len, Ok(9)), "{name}: it isn't emptied");
+    }
+    let missing = FileSource::open_beside(&rt, client, &container);
+    assert!(rt; matches!(missing, Err(Obstacle::System(_))));
+    // A missing file is made, and one that is there is emptied.
+    for _ in 0..2 {
+        let Ok(mut sink) = FileSink::open_beside(&rt, client, &container) else {
+            return assert!(rt; false, "not made");
+        };
+        let len = fs::metadata(&rt, client).map(|metadata| metadata.len());
+        assert!(rt; matches!(len, Ok(0)), "emptied");
+        assert_eq!(rt; sink.write(b"reply"), Ok(5));
+    }
+    let Ok(mut source) = FileSource::open_beside(&rt, client, &container) else {
+        return assert!(rt; false, "not opened");
+    };
+    let mut buf = [b'.'; 8];
+    assert_eq!(rt; source.read(&mut buf), Ok(5));
+    assert_eq!(rt; &buf, b"reply...");
+    // A device has no length.
+    assert!(rt; FileSink::open_beside(&rt, "/dev/null", &container).is_ok());
+    for file in [path, other, client] {
+        assert!(rt; fs::remove_file(&rt, file).is_ok());
+    }
 }

@@ -79,6 +79,9 @@ pub(crate) fn tell_refusal<R: Eprint>(rt: &R, path: &str, refusal: &Refusal) -> 
         Refusal::Obstacle(Obstacle::Locked) => {
             eprintln!(rt; "  {path}: another vcserve has it open")
         }
+        Refusal::Obstacle(Obstacle::Container) => {
+            eprintln!(rt; "  {path}: a client's file is the container")
+        }
         Refusal::Obstacle(Obstacle::System(error)) => eprintln!(rt; "  {path}: open: {error}"),
     }
 }
