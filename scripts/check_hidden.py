@@ -107,14 +107,16 @@ def sizes(rows, folder):
             rows.row(f"hide: {room} bytes with {sector}", hide_words(path, room, HIDDEN_KEY, *how), status,
                      b"ok\n" if status == 0 else b"", left=left)
         smallest = 2 * GROUP + sector
-        for length, status in [(smallest - 1, 6), (smallest, 0), (smallest + 1, 6), (0, 6)]:
+        for length, status in [(0, 5), (2 * GROUP + 511, 5), (smallest - 1, 5 if sector == 512 else 6), (smallest, 0),
+                               (smallest + 1, 6)]:
             write(path, b"\x5a" * length)
             image = b"\x5a" * length
             left = hidden(image, sector, HIDDEN_PASSWORD, 1, HIDDEN_KEY, sector=sector) if status == 0 else None
             rows.row(f"hide: into {length} bytes with {sector}", hide_words(path, sector, HIDDEN_KEY, *how), status,
                      b"ok\n" if status == 0 else b"", left=left)
             made = os.path.join(folder, "sector.vc")
-            rows.row(f"format: {length} bytes with {sector}", format_words(made, length, OUTER_KEY.hex(), *how), status,
+            rows.row(f"format: {length} bytes with {sector}", format_words(made, length, OUTER_KEY.hex(), *how),
+                     6 if status else 0,
                      b"ok\n" if status == 0 else b"",
                      left=formatted(length, PASSWORD, 1, OUTER_KEY, sector=sector) if status == 0 else None)
             if status == 0:

@@ -9,12 +9,15 @@ use crate::counts::{Counts, WorkError};
 use crate::status::Status;
 use rand_chacha::ChaCha20Rng;
 use rand_core::SeedableRng;
+use vc_layout::is_container_length;
 use vc_outside::{Sink, Store};
 use volume_format::{FormatError as HiddenError, HiddenSpec, format_hidden};
 
 /// Why `hide` failed.
 #[derive(Clone, Copy, Debug, PartialEq, Eq)]
 pub enum HideError {
+    /// The container has this many bytes, fewer or more than a container may have. Nothing changed.
+    Length(u64),
     /// The container can't have a hidden volume of the asked size. Nothing changed.
     BadSize,
     /// The work stopped. After a fault of the output the hidden volume is made; after one of the container only
@@ -38,6 +41,7 @@ impl From<Result<(), HideError>> for Status {
     fn from(ended: Result<(), HideError>) -> Status {
         match ended {
             Ok(()) => Status::Done,
+            Err(HideError::Length(len)) => Status::Length(len),
             Err(HideError::BadSize) => Status::BadSize,
             Err(HideError::Work(error)) => Status::from(error),
         }
@@ -56,6 +60,10 @@ pub fn run_hide<D: Store, O: Sink>(
         (seen ⟦<D as Store>⟧ ⟦<O as Sink>⟧ disk.old out.old) (seen ⟦<D as Store>⟧ ⟦<O as Sink>⟧ disk.new out.new) }
 {
     let counts = Counts::new(disk, out);
+    let len = disk.len();
+    if !is_container_length(len) {
+        return Err(HideError::Length(len));
+    }
     let mut rng = ChaCha20Rng::from_seed(random);
     match format_hidden(disk, &mut rng, spec) {
         Ok(()) => {}

@@ -78,21 +78,26 @@ fn info_prints_the_hidden_slot(rt: HostRuntime) -> Result<(), Fail> {
     Ok(())
 }
 
-// `hide` reads nothing, so a file that is no container gets a hidden volume if its length allows it.
+// `hide` reads nothing, so a file that is no container gets a hidden volume if its length allows it. The shortest
+// container with sectors of 4096 bytes has 266,240.
 #[test]
 fn only_the_length_of_a_container_refuses_hide(rt: HostRuntime) -> Result<(), Fail> {
     let line = "hide|c1.vc|--size|512|--password|x|--random|#|--pim|1";
-    for (len, code) in [
-        (0, 6),
-        (262_655, 6),
-        (262_656, 0),
-        (262_657, 6),
-        (263_168, 0),
+    let large = "hide|c1.vc|--size|4096|--password|x|--random|#|--pim|1|--sector|4096";
+    for (line, len, wanted) in [
+        (line, 0, Status::Length(0)),
+        (line, 262_655, Status::Length(262_655)),
+        (line, 262_656, Status::Done),
+        (line, 262_657, Status::BadSize),
+        (line, 263_168, Status::Done),
+        (large, 262_655, Status::Length(262_655)),
+        (large, 266_239, Status::BadSize),
+        (large, 266_240, Status::Done),
     ] {
         let mut bytes = Vec::new(rt.alloc());
         bytes.resize(len, 0)?;
         let (status, _, _) = run(&rt, line, SureStore::new(bytes))?;
-        assert_eq!(rt; status.code(), code, "{len}");
+        assert_eq!(rt; status, wanted, "{len}");
     }
     Ok(())
 }
