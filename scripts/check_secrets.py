@@ -11,7 +11,7 @@ import time
 
 from check_format import HEX, KEY, SMALLEST, formatted
 from independent_container import changed
-from program_rows import LIMIT, PASSWORD, differences, differences_left, fingerprint, why_no_terminal
+from program_rows import LIMIT, LINES, PASSWORD, differences, differences_left, fingerprint, nobody, why_no_terminal
 
 LINE = "vcserve: secret file\n"
 HIDDEN = "hidden horse"
@@ -30,7 +30,7 @@ def run(rows, name, words, status, out, line="", kept=None, left=None, **how):
     before = fingerprint(kept)
     try:
         done = subprocess.run([rows.program, *words], timeout=LIMIT, stdout=subprocess.PIPE, stderr=subprocess.PIPE,
-                              **({"stdin": subprocess.DEVNULL} if "input" not in how else {}), **how)
+                              **({} if {"input", "stdin"} & how.keys() else {"stdin": subprocess.DEVNULL}), **how)
     except subprocess.TimeoutExpired:
         return rows.note(name, [f"no end after {LIMIT} s"])
     faults = differences(done, status, out, line)
@@ -80,6 +80,41 @@ def contents(rows, small, folder):
     begin = time.monotonic()
     run(rows, "secret file: 1 GiB", ["info", small, "--password-file", long], 2, b"", LINE, small)
     rows.note("secret file: 1 GiB isn't read", ["it takes long"] if time.monotonic() - begin > 5 else [])
+
+
+def what_is_taken(rows, small):
+    """Of an input that doesn't end 131 bytes are read for a password, and 32 for a random key. The others stay."""
+    run(rows, "secret file: it has no end", ["info", small, "--password-file", "/dev/zero"], 2, b"", LINE, small)
+    for name, words, status, line, taken in [
+        ("password", ["info", small, "--password-file"], 2, LINE, 131),
+        ("random key", ["hide", small, "--size", "1", "--password", "x", "--random-file"], 6, LINES[6], 32),
+    ]:
+        reader, writer = os.pipe()
+        os.write(writer, bytes(range(250)) * 4)
+        # The end that writes stays open, so a read for more than there is would wait.
+        run(rows, f"secret file: a {name} from a pipe that stays open", [*words, f"/dev/fd/{reader}"], status, b"", line,
+            small, pass_fds=[reader])
+        left = os.read(reader, 4096)
+        faults = [] if left == (bytes(range(250)) * 4)[taken:] else [f"{1000 - len(left)} bytes in place of {taken}"]
+        rows.note(f"secret file: what is read of a {name}", faults)
+        os.close(reader)
+        os.close(writer)
+
+
+def unreadable(rows, small, folder):
+    """Files that the system refuses to read; to the superuser it refuses none, so another user tries them."""
+    path = written(folder, "unreadable", PASSWORD.encode(), 0)
+    inner = os.path.join(folder, "closed")
+    os.mkdir(inner)
+    inside = written(inner, "secret", PASSWORD.encode(), 0o644)
+    os.chmod(inner, 0)
+    try:
+        for name, file in [("mode 000", path), ("in a folder that can't be searched", inside)]:
+            words = ["info", small, "--pim", "1", "--password-file", file]
+            run(rows, f"secret file: {name}", words, 2, b"", LINE, small, **nobody())
+    except (PermissionError, subprocess.SubprocessError) as error:
+        rows.leave_out("secret files that can't be read", f"the superuser reads all, and no other user runs: {error}")
+    os.chmod(inner, 0o755)
 
 
 def places(rows, small, folder):
@@ -175,8 +210,11 @@ def pipes(rows, small, folder):
     if why:
         return rows.leave_out("secret from a terminal", why)
     parent, child = pty.openpty()
-    os.write(parent, line)
-    run(rows, "secret from a terminal", [*cat, os.ttyname(child)], 0, two, start_new_session=True)
+    for path, how in [(os.ttyname(child), {}), ("/dev/stdin", {"stdin": child})]:
+        os.write(parent, line)
+        run(rows, f"secret from a terminal: {path}", [*cat, path], 0, two, start_new_session=True, **how)
+        os.write(parent, b"a" * 129 + b"\n")
+        run(rows, f"secret that is too long, from a terminal: {path}", [*cat, path], 2, b"", LINE, start_new_session=True, **how)
     os.close(child)
     os.close(parent)
 
@@ -209,6 +247,8 @@ def check(rows, small, folder):
     os.mkdir(place)
     os.chmod(place, 0o755)
     contents(rows, small, place)
+    what_is_taken(rows, small)
+    unreadable(rows, small, place)
     places(rows, small, place)
     pipes(rows, small, place)
     not_seen(rows, place)

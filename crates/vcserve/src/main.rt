@@ -27,7 +27,7 @@ mod synopsis;
 
 use crate::container::{Refusal, leave, opened, show_progress, tell_refusal, tell_trouble};
 use crate::reasons::explain;
-use crate::secrets::{SecretError, overwrite, warn, with_secrets};
+use crate::secrets::{SecretError, overwrite, overwrite_secrets, warn, with_secrets};
 
 /// How the program ends.
 #[derive(Clone, Copy)]
@@ -64,8 +64,15 @@ fn main(rt: HostRuntime) -> ExitCode {
     let kept = keep_standard(&rt);
     let is_person = rt.stderr().is_terminal();
     let ending = match words(&rt) {
-        Ok(words) if kept.is_ok() => run(&rt, words.as_slice(), is_person),
-        Ok(_) => ended(&rt, Ending::Status(Status::DiskFault), &[], false),
+        Ok(words) => {
+            let ending = if kept.is_ok() {
+                run(&rt, words.as_slice(), is_person)
+            } else {
+                ended(&rt, Ending::Status(Status::DiskFault), &[], false)
+            };
+            overwrite(words);
+            ending
+        }
         Err(status) => ended(&rt, Ending::Status(status), &[], false),
     };
     ExitCode::from(ending.code())
@@ -147,8 +154,9 @@ fn is_serve(words: &[String]) -> bool {
     }
 }
 
-// Warnings of exposed files come after the container was opened: until then the standard error may be the
-// container.
+// The command that is read here names the container alone: its secrets are overwritten at once, and the top
+// call reads them anew. Warnings of exposed files come after the container was opened: until then the standard
+// error may be the container.
 fn run_command<R: Files<File = File> + Print + Eprint + AllocGlobal + Threads + Sync>(
     rt: &R,
     words: &[String],
@@ -156,10 +164,13 @@ fn run_command<R: Files<File = File> + Print + Eprint + AllocGlobal + Threads + 
     is_person: bool,
 ) -> Ending {
     match read_words(rt.alloc(), words) {
-        Ok(command) => match command.path() {
-            Some(path) => run_over_file(rt, &command, path, words, exposed, is_person),
-            None => run_over_nothing(rt, words, exposed, is_person),
-        },
+        Ok(mut command) => {
+            overwrite_secrets(&mut command);
+            match command.path() {
+                Some(path) => run_over_file(rt, &command, path, words, exposed, is_person),
+                None => run_over_nothing(rt, words, exposed, is_person),
+            }
+        }
         Err(WordsError::Usage) => run_over_nothing(rt, words, exposed, is_person),
         Err(WordsError::NoMemory) => {
             ended(rt, Ending::Status(Status::NoMemory), words, is_person)

@@ -1,10 +1,12 @@
 //! Secrets that are in files.
 //!
 //! Which options name a file, and what its content is as a secret, is `secret_options`' to say. Here the files
-//! are read, and the buffers and texts that held a secret are overwritten when they aren't needed any more. The
-//! system, the compiler or the command that is made of the texts may have other copies.
+//! are read, and the buffers, texts and commands that held a secret are overwritten when they aren't needed any
+//! more. The system, the compiler or the command that `run_plain` makes of the texts may have other copies.
 ghost use Rattle.std.specs.Prelude.{◌≡◌, ◌≤◌, IfOk, length};
 
+use cmd_words::Command;
+use kdf_hmac::Password;
 use secret_options::{
     ArgumentsError, Part, READ_AT_MOST, Secret, digits_of, filled, parts_of, password_in,
 };
@@ -49,6 +51,7 @@ pub(crate) fn with_secrets<R: Files<File = File> + AllocGlobal>(
         Err(error) => Err(error),
     };
     overwrite(secrets);
+    overwrite_parts(parts);
     words
 }
 
@@ -63,8 +66,70 @@ pub(crate) fn warn<R: Eprint>(rt: &R, exposed: &[String]) {
 /// Overwrites texts before they are dropped.
 pub(crate) fn overwrite(texts: Vec<String>) {
     for text in texts {
-        let mut bytes = text.into_bytes();
-        bytes.fill(0);
+        overwrite_text(text);
+    }
+}
+
+fn overwrite_text(text: String) {
+    let mut bytes = text.into_bytes();
+    bytes.fill(0);
+}
+
+// A secret may be an argument beside a file.
+fn overwrite_parts(parts: Vec<Part>) {
+    for part in parts {
+        match part {
+            Part::Plain(text) | Part::Held(_, text) => overwrite_text(text),
+        }
+    }
+}
+
+/// Overwrites the passwords and the random key of a command, all 128 bytes of a password's buffer.
+pub(crate) fn overwrite_secrets(command: &mut Command) {
+    overwrite_key(command);
+    overwrite_first(command);
+    overwrite_second(command);
+}
+
+fn overwrite_key(command: &mut Command) {
+    match command {
+        Command::Format { random, .. } => random.fill(0),
+        Command::Hide { random, .. } => random.fill(0),
+        Command::Passwd { random, .. } => random.fill(0),
+        Command::Restore { random, .. } => random.fill(0),
+        _ => {}
+    }
+}
+
+fn overwrite_first(command: &mut Command) {
+    match command {
+        Command::Format { password, .. } => overwrite_password(password),
+        Command::Hide { password, .. } => overwrite_password(password),
+        Command::Info { password, .. } => overwrite_password(password),
+        Command::Cat { password, .. } => overwrite_password(password),
+        Command::Passwd { password, .. } => overwrite_password(password),
+        Command::Restore { password, .. } => overwrite_password(password),
+        Command::Serve { password, .. } => overwrite_password(password),
+        Command::Drill { .. } => {}
+    }
+}
+
+fn overwrite_second(command: &mut Command) {
+    match command {
+        Command::Passwd { new_password, .. } => overwrite_password(new_password),
+        Command::Serve { protect, .. } => {
+            if let Some((password, _)) = protect {
+                overwrite_password(password);
+            }
+        }
+        _ => {}
+    }
+}
+
+// By another password, of one byte, in the place of this one.
+fn overwrite_password(password: &mut Password) {
+    if let Some(other) = Password::new(&[0]) {
+        *password = other;
     }
 }
 
