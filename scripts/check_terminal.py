@@ -7,6 +7,7 @@ import fcntl
 import os
 import pty
 import resource
+import shutil
 import signal
 import subprocess
 import tempfile
@@ -43,7 +44,9 @@ MISTAKES = [
     ("cat|--password=x", 2, "PATH is missing"),
     ("info|C|D|--password=x", 2, "one position too many: D"),
     ("cat|C|0|1|2|--password=x", 2, "one position too many: 2"),
-    ("info|C|--password|correct|horse", 2, "one position too many: horse"),
+    ("info|C|--password|correct|horse", 2, "one position too many after --password; a value with spaces is written in quotes"),
+    ("passwd|C|--password=x|--new=correct|horse", 2, "one position too many after --new; a value with spaces"),
+    ("info|C|--password=x|--pim|1|D", 2, "one position too many: D"),
     ("format|N|262656|--password=x|--random=H", 2, "one position too many: 262656"),
     ("drill", 2, "N is missing"),
     ("drill|7|8", 2, "one position too many: 8"),
@@ -53,7 +56,16 @@ MISTAKES = [
     ("info|C|--pass|x", 2, "no such option: --pass; perhaps --password"),
     ("info|C|--PASSWORD|x", 2, "no such option: --PASSWORD; perhaps --password"),
     ("info|C|--PIM|1|--password=x", 2, "no such option: --PIM; perhaps --pim"),
-    ("info|C|--password=x|--pin=1", 2, "no such option: --pin"),
+    ("info|C|--password=x|--pin=1", 2, "no such option: --pin; perhaps --pim"),
+    ("info|C|--passwd-file|P", 2, "no such option: --passwd-file; perhaps --password-file"),
+    ("info|C|--passwordfile=P", 2, "no such option: --passwordfile; perhaps --password-file"),
+    ("info|C|--password-files=P", 2, "no such option: --password-files; perhaps --password-file"),
+    ("passwd|C|--password=x|--new-files=P", 2, "no such option: --new-files; perhaps --new-file"),
+    ("restore|C|--password=x|--random_file=P", 2, "no such option: --random_file; perhaps --random-file"),
+    ("info|C|--password=x|--random_file=P", 2, "no such option: --random_file"),
+    ("info|C|--key-file=P", 2, "no such option: --key-file"),
+    ("info|C|--password=x|--backups", 2, "no such option: --backups; perhaps --backup"),
+    ("info|C|--password=x|--back-up", 2, "no such option: --back-up; perhaps --backup"),
     ("info|C|--password=x|--type=any", 2, "no such option: --type"),
     ("info|C|--password=x|--kinds=any", 2, "no such option: --kinds; perhaps --kind"),
     ("info|C|-p|x", 2, "no such option: -p"),
@@ -144,8 +156,11 @@ MISTAKES = [
     ("info|C|--password=x|--|a", 2, "after `--` come pairs of files for the clients of serve"),
     ("info|C|--password=x|--|a|b", 2, "after `--` come pairs of files for the clients of serve"),
     ("serve|C|--password=x|--|a", 2, "after `--` come pairs of files for the clients of serve"),
-    ("info|C|--password-file", 2, "an option that names a file needs a path"),
-    ("info|C|--password-file|--pim=1", 2, "an option that names a file needs a path"),
+    ("info|C|--password-file", 2, "no path: --password-file; one that begins with `-` is written --password-file=PATH"),
+    ("info|C|--password-file|--pim=1", 2, "no path: --password-file"),
+    ("info|C|--password-file|-x", 2, "no path: --password-file"),
+    ("passwd|C|--password-file|P|--new-file", 2, "no path: --new-file"),
+    ("format|N|--size=1|--password-file|P|--random-file|--pim=1", 2, "no path: --random-file"),
     ("info|C|--password-file|nowhere", "secret file", "a file has to hold a password of 1 to 128 bytes of UTF-8"),
     ("info|C|--random-file|/dev/urandom", 2, "no such option: --random"),
     # the container
@@ -158,6 +173,8 @@ MISTAKES = [
     ("format|N|--size=1|--password=x|--random=H", 6, "--size is a multiple of --sector, from 262144 plus one sector"),
     ("format|N|--size=262657|--password=x|--random=H", 6, "--size is a multiple of --sector"),
     ("hide|C|--size=1|--password=x|--random=H", 6, "--size is a multiple of --sector, from one sector"),
+    # so long that it would be told how much is done, but nothing is
+    ("format|N|--size=536870913|--password=x|--random=H", 6, "--size is a multiple of --sector"),
     ("info|nowhere|--password=x", 7, "nowhere: open: No such file or directory"),
     ("info|.|--password=x", 7, ".: it isn't a regular file"),
     ("info|/dev/null|--password=x", 7, "/dev/null: it isn't a regular file"),
@@ -167,10 +184,11 @@ MISTAKES = [
 ]
 
 
-def at_terminal(program, words, folder, stdout=subprocess.PIPE):
+def at_terminal(program, words, folder, stdout=subprocess.PIPE, **how):
     """A run whose standard error is a terminal: its status, its output, and what it told."""
     parent, child = pty.openpty()
-    running = subprocess.Popen([program, *words], stdin=subprocess.DEVNULL, stdout=stdout, stderr=child, cwd=folder)
+    running = subprocess.Popen([program, *words], stdin=subprocess.DEVNULL, stdout=stdout, stderr=child, cwd=folder,
+                               **how)
     os.close(child)
     told = b""
     while True:
@@ -213,8 +231,10 @@ def mistakes(rows, small, folder):
             faults.append(f"{len(reasons)} lines of reasons")
         if reasons and reason not in reasons[0]:
             faults.append(f"{reasons[0]!r} doesn't have {reason!r}")
-        if any(secret in told for secret in (HEX, "zebra", "a" * 129)):
+        if any(secret in told for secret in (HEX, "zebra", "horse", "a" * 129)):
             faults.append("a secret is told")
+        if any(f"vcserve {name}" in told for name in ("serve", "drill")):
+            faults.append("there is a synopsis of a command that isn't built")
         if os.path.exists(os.path.join(folder, "N")):
             faults.append("a container is left")
             os.remove(os.path.join(folder, "N"))
@@ -250,6 +270,81 @@ def progress(rows, folder):
         rows.note(f"progress of {size} bytes at a terminal", faults)
         done = subprocess.run([rows.program, *words], capture_output=True, stdin=subprocess.DEVNULL, timeout=LIMIT)
         rows.note(f"progress of {size} bytes without one", differences(done, 0, b"ok\n", ""))
+    words = ["cat", path, "0", str((size >> 9) - 512), "--password", PASSWORD, "--pim", "1"]
+    with open(os.devnull, "wb") as nowhere:
+        status, _, told = at_terminal(rows.program, words, folder, stdout=nowhere)
+    rows.note("cat of a long volume tells no progress", [] if (status, told) == (0, "") else [f"{status}, {told[:80]!r}"])
+    os.remove(path)
+
+
+def faults_at_terminal(rows, folder):
+    """The path, the call and the system's reason of a container fault."""
+    path = os.path.join(folder, "fault.vc")
+    words = ["format", path, "--size", str(SMALLEST), "--password", PASSWORD, "--random", HEX, "--pim", "1"]
+    limit = {"preexec_fn": limit_files(1 << 10)}
+    for name, is_there, call in [("a new file", False, "set the length"), ("a long file", True, "write")]:
+        if is_there:
+            # It may be cut, to a length that no file may grow to.
+            with open(path, "wb") as file:
+                file.write(bytes(1 << 20))
+        status, out, told = at_terminal(rows.program, words, folder, **limit)
+        wanted = f"{LINES[7]}  {path}: {call}: File too large"
+        rows.note(f"fault at a terminal: {name}",
+                  [] if (status, out) == (7, b"") and told.startswith(wanted) else [f"status {status}, {told!r}"])
+
+
+# Locks are refused as by a file system that has none, and the names of what is synced are written down.
+LIBRARY = r"""
+#define _GNU_SOURCE
+#include <errno.h>
+#include <fcntl.h>
+#include <stdio.h>
+#include <stdlib.h>
+#include <unistd.h>
+int flock(int fd, int how) { (void)how; if (getenv("NO_LOCKS")) { errno = ENOLCK; return -1; } return 0; }
+int fsync(int fd) {
+    char link[64], name[4096];
+    snprintf(link, sizeof link, "/proc/self/fd/%d", fd);
+    ssize_t len = readlink(link, name, sizeof name - 1);
+    int log = open(getenv("SYNCED"), O_WRONLY | O_CREAT | O_APPEND, 0600);
+    if (len < 0 || log < 0) return -1;
+    name[len] = '\n';
+    if (write(log, name, len + 1) < 0) return -1;
+    close(log);
+    return 0;
+}
+"""
+
+
+def without_locks(rows, folder):
+    """A file system without locks: no container is opened, and one that was made is removed again."""
+    if shutil.which("gcc") is None:
+        return rows.leave_out("a file system without locks, and what is synced", "gcc is missing")
+    library, log = os.path.join(folder, "calls.so"), os.path.join(folder, "log")
+    subprocess.run(["gcc", "-O2", "-shared", "-fPIC", "-x", "c", "-", "-o", library], input=LIBRARY.encode(), check=True)
+    path = os.path.join(folder, "unlocked.vc")
+    words = ["format", path, "--size", str(SMALLEST), "--password", PASSWORD, "--random", HEX, "--pim", "1"]
+    loaded = {**os.environ, "LD_PRELOAD": library, "SYNCED": log}
+    no_locks = {"env": {**loaded, "NO_LOCKS": "1"}}
+    rows.row("format without locks", words, 7, kept=path, **no_locks)
+    rows.note("format without locks: the file", ["it is left"] if os.path.exists(path) else [])
+    with open(path, "wb") as file:
+        file.write(b"there before")
+    rows.row("format without locks, over a file", words, 7, kept=path, left=b"there before", **no_locks)
+    rows.row("info without locks", ["info", path, "--password", PASSWORD], 7, kept=path, **no_locks)
+    if why_no_terminal() is None:
+        status, _, told = at_terminal(rows.program, words, folder, **no_locks)
+        wanted = f"{LINES[7]}  {path}: open: No locks available"
+        rows.note("format without locks, at a terminal",
+                  [] if status == 7 and told.startswith(wanted) else [f"status {status}, {told!r}"])
+    os.remove(path)
+    for name, synced in [("a new file", [path, folder]), ("a file that is there", [path])]:
+        rows.row(f"what is synced: {name}", words, 0, b"ok\n", left=formatted(SMALLEST, PASSWORD, 1, KEY), env=loaded)
+        with open(log, encoding="utf-8") as file:
+            found = file.read().splitlines()
+        wanted = [os.path.realpath(name) for name in synced]
+        rows.note(f"what is synced: {name}: its names", [] if found == wanted else [f"{found} in place of {wanted}"])
+        os.remove(log)
     os.remove(path)
 
 
@@ -393,12 +488,13 @@ def flags_of(pid, path):
 
 
 def check(rows, small, folder):
-    parts = [(one_writer, True), (own_output, True), (files_of_format, False)]
+    parts = [(one_writer, True), (own_output, True), (files_of_format, False), (without_locks, False)]
     why = why_no_terminal()
     if why:
         rows.leave_out("rows at a terminal", why)
     else:
-        parts = [(mistakes, True), (help_at_terminal, False), (progress, False), *parts]
+        parts = [(mistakes, True), (help_at_terminal, False), (progress, False),
+                 (faults_at_terminal, False), *parts]
     for part, more in parts:
         with tempfile.TemporaryDirectory(dir=folder) as place:
             part(rows, small, place) if more else part(rows, place)

@@ -24,6 +24,8 @@ pub enum Reason<'a> {
     NoOption(&'a str, Option<&'static str>),
     /// The argument is a position too many.
     TooMany(&'a str),
+    /// A position too many that follows the value of this option, which is a password: perhaps a part of it.
+    AfterPassword(&'static str),
     /// The option or flag is given twice.
     Twice(&'static str),
     /// The option is the last argument, or the argument after it begins with a hyphen.
@@ -110,6 +112,8 @@ fn amiss_in<'a>(
     uses: &mut Vec<Use<'a>>,
 ) -> Result<Option<Reason<'a>>, AllocError> {
     let mut awaiting = None;
+    // The option of a password, if only positions came after that.
+    let mut password = None;
     let mut place: usize = 0;
     for word in words {
         let word = word.as_str();
@@ -125,7 +129,7 @@ fn amiss_in<'a>(
                 Seen::Gives(given) => given,
                 Seen::Position => {
                     let Some(name) = form.positions.get(place) else {
-                        return Ok(Some(Reason::TooMany(word)));
+                        return Ok(Some(too_many(word, password)));
                     };
                     place = place.saturating_add(1);
                     Use { name, value: word }
@@ -133,6 +137,9 @@ fn amiss_in<'a>(
             },
         };
         awaiting = None;
+        if known(form.positions, given.name).is_none() {
+            password = known(&["password", "new", "protect"], given.name);
+        }
         if value_in(uses.as_slice(), given.name).is_some() {
             return Ok(Some(Reason::Twice(given.name)));
         }
@@ -141,6 +148,13 @@ fn amiss_in<'a>(
     match awaiting {
         Some(name) => Ok(Some(Reason::NoValue(name))),
         None => Ok(None),
+    }
+}
+
+fn too_many<'a>(word: &'a str, password: Option<&'static str>) -> Reason<'a> {
+    match password {
+        Some(name) => Reason::AfterPassword(name),
+        None => Reason::TooMany(word),
     }
 }
 
@@ -173,18 +187,49 @@ fn known(names: &'static [&'static str], name: &str) -> Option<&'static str> {
     None
 }
 
-// The option that is most like a name, if one begins or ends like it.
+// Options in whose place a program may take one that names a file: the option and that one.
+const FILE_OPTIONS: [(&str, &str); 4] = [
+    ("password", "password-file"),
+    ("new", "new-file"),
+    ("protect", "protect-file"),
+    ("random", "random-file"),
+];
+
+// The option or flag that is most like a name, if one begins or ends like it. An option that names a file is one
+// only if the name is like the option that it stands for, too.
 fn nearest(form: Form, name: &str) -> Option<&'static str> {
-    let mut best = None;
-    let mut most = 2;
+    let mut best = (None, 0);
     for known in form.options {
-        let like = likeness(known, name);
-        if like > most {
-            most = like;
-            best = Some(*known);
+        best = better(best, known, name);
+    }
+    for known in form.flags {
+        best = better(best, known, name);
+    }
+    for (option, file_option) in &FILE_OPTIONS {
+        if known(form.options, option).is_some() && is_like(option, name) {
+            best = better(best, file_option, name);
         }
     }
+    best.0
+}
+
+// The best so far with its likeness, or this name if it is more like the wanted one.
+fn better(
+    best: (Option<&'static str>, usize),
+    known: &'static str,
+    name: &str,
+) -> (Option<&'static str>, usize) {
+    let like = likeness(known, name);
+    if like > best.1 && is_like(known, name) {
+        return (Some(known), like);
+    }
     best
+}
+
+// Short names are like one another by fewer bytes.
+fn is_like(known: &str, name: &str) -> bool {
+    let least = if known.len() < 4 { 2 } else { 3 };
+    likeness(known, name) >= least
 }
 
 // How many bytes are the same at the start and at the end, in either case of letters.

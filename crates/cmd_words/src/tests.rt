@@ -297,8 +297,39 @@ fn the_first_reason_is_the_leftmost(rt: HostRuntime) -> Result<(), Fail> {
         ),
         ("info|C1|--PIM|1", Reason::NoOption("--PIM", Some("pim"))),
         ("info|C1|--zzz", Reason::NoOption("--zzz", None)),
+        (
+            "info|C1|--Back-up",
+            Reason::NoOption("--Back-up", Some("backup")),
+        ),
+        ("info|C1|--pin=1", Reason::NoOption("--pin=1", Some("pim"))),
+        (
+            "info|C1|--passwd-file=f",
+            Reason::NoOption("--passwd-file=f", Some("password-file")),
+        ),
+        (
+            "info|C1|--passwordfile|f",
+            Reason::NoOption("--passwordfile", Some("password-file")),
+        ),
+        (
+            "info|C1|--random_file|f",
+            Reason::NoOption("--random_file", None),
+        ),
+        ("info|C1|--key-file|f", Reason::NoOption("--key-file", None)),
+        (
+            "restore|C1|--random_file|f",
+            Reason::NoOption("--random_file", Some("random-file")),
+        ),
         ("info|C1|-p", Reason::NoOption("-p", None)),
         ("info|C1|C2|--zzz", Reason::TooMany("C2")),
+        ("info|C1|--password=x|--pim|1|C2", Reason::TooMany("C2")),
+        (
+            "info|C1|--password|correct|horse",
+            Reason::AfterPassword("password"),
+        ),
+        (
+            "passwd|--new=correct|horse|battery|C1",
+            Reason::AfterPassword("new"),
+        ),
         ("info|C1|--pim=1|--pim=1|--zzz", Reason::Twice("pim")),
         ("info|C1|--backup|--backup", Reason::Twice("backup")),
         ("info|C1|--password", Reason::NoValue("password")),

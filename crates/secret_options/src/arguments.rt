@@ -106,6 +106,21 @@ fn held(alloc: Global, secret: Secret, path: &str) -> Result<Part, ArgumentsErro
     }
 }
 
+/// The secret whose option has no path, if `parts_of` returns Missing. For a program that tells a person.
+pub fn without_path(words: &[String]) -> Option<Secret> {
+    let mut awaiting = None;
+    for word in words {
+        let word = word.as_str();
+        match awaiting {
+            Some(secret) if begins_with_hyphen(word) => return Some(secret),
+            Some(_) => awaiting = None,
+            None if word == "--" => return None,
+            None => awaiting = secret_named(word),
+        }
+    }
+    awaiting
+}
+
 /// The arguments with these secrets in place of the files, in their order.
 pub fn filled(
     alloc: Global,

@@ -12,7 +12,7 @@
 //! by whoever reads the arguments that come out. Lengths are in bytes.
 #![tactic(auto)]
 
-pub use arguments::{ArgumentsError, filled, parts_of};
+pub use arguments::{ArgumentsError, filled, parts_of, without_path};
 pub use content::{READ_AT_MOST, digits_of, password_in};
 pub use part::Part;
 pub use secret::Secret;

@@ -1,5 +1,5 @@
 //! The secrets that a file can hold, and the options that they stand for.
-ghost use Rattle.std.specs.Prelude.{◌≡◌, IfOk, string_bytes};
+ghost use Rattle.std.specs.Prelude.{◌≡◌, IfOk, Some, string_bytes};
 ghost use Rattle.secret_options.specs.Arguments.{option_of, secret_named};
 
 use std::alloc::{AllocError, Global};
@@ -23,6 +23,20 @@ pub(crate) fn secret_named(name: &str) -> Option<Secret>
         "--protect-file" => Some(Secret::Protect),
         "--random-file" => Some(Secret::Random),
         _ => None,
+    }
+}
+
+impl Secret {
+    /// The option that names a file with this secret.
+    pub fn file_option(self) -> &'static str
+        ensures { secret_named result.now ≡ Some self }
+    {
+        match self {
+            Secret::Password => "--password-file",
+            Secret::New => "--new-file",
+            Secret::Protect => "--protect-file",
+            Secret::Random => "--random-file",
+        }
     }
 }
 

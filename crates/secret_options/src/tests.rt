@@ -211,6 +211,8 @@ fn each_file_option_becomes_the_option_that_it_stands_for(
     let alloc = rt.alloc();
     for (line, files, want) in &LISTS {
         let words = words_of(alloc, line)?;
+        let without = without_path(words.as_slice());
+        assert_eq!(rt; without.is_some(), *want == "missing", "{line}: a path");
         let parts = match parts_of(alloc, words.as_slice()) {
             Ok(parts) => parts,
             Err(error) => {
@@ -230,6 +232,24 @@ fn each_file_option_becomes_the_option_that_it_stands_for(
         }
         let too_few = filled(alloc, parts.as_slice(), &[]);
         assert_eq!(rt; too_few.is_err(), secrets.len() > 0, "{line}: no secrets");
+    }
+    Ok(())
+}
+
+#[test]
+fn the_option_without_a_path_is_named(rt: HostRuntime) -> Result<(), AllocError> {
+    for (line, want) in [
+        ("info|C1|--random-file", "--random-file"),
+        ("--password-file|f|--new-file|--pim|1", "--new-file"),
+        ("--protect-file|--new-file|f", "--protect-file"),
+        (
+            "--new-file=f|--password-file|-x|--random-file",
+            "--password-file",
+        ),
+    ] {
+        let words = words_of(rt.alloc(), line)?;
+        let without = without_path(words.as_slice()).map(|secret| secret.file_option());
+        assert_eq!(rt; without, Some(want), "{line}");
     }
     Ok(())
 }

@@ -1,8 +1,9 @@
-//! What a person at a terminal is told after the line that says why the program failed. No secret of a file and no
-//! value of an option is told.
+//! What a person at a terminal is told after the line that says why the program failed. No secret of a file, no
+//! value of an option and no position that may belong to a password is told.
 use crate::Ending;
 use crate::synopsis::{COMMANDS, synopsis_of};
 use cmd_words::{Fault, Reason, read_words, reason_of};
+use secret_options::without_path;
 use std::io;
 use vc_app::Status;
 
@@ -18,12 +19,12 @@ pub(crate) fn explain<R: Eprint + AllocGlobal>(
     };
     match ending {
         Ending::Files => {
-            eprintln!(rt; "  after `--` come pairs of files for the clients of serve")?;
+            eprintln!(rt;
+                "  after `--` come pairs of files for the clients of serve, which isn't built yet"
+            )?;
             tell_synopsis(rt, command)
         }
-        Ending::NoPath => eprintln!(rt;
-            "  an option that names a file needs a path that doesn't begin with `-`"
-        ),
+        Ending::NoPath => tell_no_path(rt, words),
         Ending::SecretFile => {
             eprintln!(rt;
                 "  a file has to hold a password of 1 to 128 bytes of UTF-8, or a key of 32 bytes"
@@ -70,11 +71,28 @@ pub(crate) fn is_help(words: &[String]) -> bool {
     }
 }
 
+// Which of the options that name a file has no path.
+fn tell_no_path<R: Eprint>(rt: &R, words: &[String]) -> io::Result<()> {
+    match without_path(words) {
+        Some(secret) => {
+            let option = secret.file_option();
+            eprintln!(rt; "  no path: {option}; one that begins with `-` is written {option}=PATH")
+        }
+        None => Ok(()),
+    }
+}
+
+// A command that isn't built has no synopsis.
 fn tell_synopsis<R: Eprint>(rt: &R, command: &str) -> io::Result<()> {
     match synopsis_of(command) {
         Some(synopsis) => eprintln!(rt; "  {synopsis}"),
+        None if is_unbuilt(command) => eprintln!(rt; "  {command} isn't built yet"),
         None => Ok(()),
     }
+}
+
+fn is_unbuilt(command: &str) -> bool {
+    matches!(command, "serve" | "drill")
 }
 
 fn explain_size<R: Eprint>(rt: &R, command: &str) -> io::Result<()> {
@@ -101,8 +119,9 @@ fn explain_usage<R: Eprint + AllocGlobal>(
     if is_help(words) {
         return tell_all(rt);
     }
+    // A command that is refused all the same isn't built.
     if read_words(rt.alloc(), words).is_ok() {
-        return eprintln!(rt; "  {command} isn't built yet");
+        return tell_synopsis(rt, command);
     }
     match reason_of(rt.alloc(), words) {
         Ok(Some(reason)) => tell_reason(rt, reason)?,
@@ -129,6 +148,11 @@ fn tell_reason<R: Eprint>(rt: &R, reason: Reason<'_>) -> io::Result<()> {
             eprintln!(rt; "  no such option: {name}")
         }
         Reason::TooMany(word) => eprintln!(rt; "  one position too many: {word}"),
+        Reason::AfterPassword(name) => {
+            eprintln!(rt;
+                "  one position too many after --{name}; a value with spaces is written in quotes"
+            )
+        }
         Reason::Twice(name) => eprintln!(rt; "  given twice: --{name}"),
         Reason::NoValue(name) => {
             eprintln!(rt;
