@@ -13,7 +13,7 @@ import subprocess
 import tempfile
 import time
 
-from check_format import HEX, KEY, SMALLEST, formatted
+from check_format import HEX, KEY, SMALLEST, formatted, small_disk
 from program_rows import LIMIT, LINES, PASSWORD, differences, differences_left, fingerprint, why_no_terminal
 
 FORMAT = f"format|N|--size=262656|--password=x|--random={HEX}"
@@ -291,6 +291,16 @@ def faults_at_terminal(rows, folder):
         wanted = f"{LINES[7]}  {path}: {call}: File too large"
         rows.note(f"fault at a terminal: {name}",
                   [] if (status, out) == (7, b"") and told.startswith(wanted) else [f"status {status}, {told!r}"])
+    with small_disk(rows, folder, 300 << 10) as disk:
+        if disk is None:
+            return
+        path = os.path.join(disk, "full.vc")
+        words = ["format", path, "--size", str(1 << 20), "--password", PASSWORD, "--random", HEX, "--pim", "1"]
+        status, out, told = at_terminal(rows.program, words, folder)
+        wanted = f"{LINES[7]}  {path}: write: No space left on device"
+        rows.note("fault at a terminal: a full disk",
+                  [] if (status, out) == (7, b"") and told.startswith(wanted) else [f"status {status}, {told!r}"])
+        rows.note("format on a full disk: the file", ["it is left"] if os.path.exists(path) else [])
 
 
 # Locks are refused as by a file system that has none, and the names of what is synced are written down.
