@@ -13,7 +13,7 @@ use Rattle.vc_app.specs.Status.{words_status}
 use Rattle.vc_app.proofs.PromiseIsKept.{memory_kept, refusal_kept, Quiet}
 
 nothing_written : (now : Seen) → Quiet now now
-nothing_written now = record { contents = refl; disk_later = omega arith; out_later = omega arith }
+nothing_written now = record { contents = refl; disk_later = omega arith; out_same = refl }
 
 nothing_changed : (now : Seen) → Unchanged now now
 nothing_changed now = record {
@@ -47,4 +47,4 @@ pub unread_kept : (arguments : List Text) (r : Result Command WordsError) (e : W
 unread_kept arguments r words.Usage now is none = none_kept arguments now (none is)
 unread_kept arguments r words.NoMemory now is none =
     memory_kept (promise_of arguments) now now (nothing_written now) (nothing_changed now).same
-    (nothing_reached (promise_of arguments).reach now) refl refl
+    (nothing_reached (promise_of arguments).reach now) refl

@@ -16,11 +16,11 @@ use Rattle.vc_app.specs.Status.{ended, IsAfterWork, IsOfPlain, IsRefusal, work_s
 use Rattle.vc_app.specs.Promise.{goes, Goes, IsComplete, IsEarly, IsFront, IsLate, Kept, Outcome, Plan, Promise, refused, Same, Seen, status_in, Whole, Within}
 use Rattle.vc_app.proofs.Growth.{front_of_none}
 
--- nothing was written, and no count fell
+-- nothing was written
 pub record Quiet (old new : Seen) : Type 0 where
   pub contents : new.contents ≡ old.contents
   pub disk_later : old.disk_faults ≤ new.disk_faults
-  pub out_later : old.out_faults ≤ new.out_faults
+  pub out_same : new.out_faults ≡ old.out_faults
 
 pub front_of_nothing : (o : Option Outcome) (old new : Option (List ℕ)) → new ≡ old → IsFront o old new
 front_of_nothing None old new same = tt
@@ -55,7 +55,7 @@ stopped_kept p s old new within quiet stopped = record {
   refused = stopped.refused;
   possible = stopped.plain;
   disk_cause = record { later = quiet.disk_later; rose = stopped.fault };
-  out_cause = record { later = quiet.out_later; rose = λ e. absurd (stopped.unfinished (inr e)) };
+  out_cause = record { later = omega (arith, quiet.out_same); rose = λ e. absurd (stopped.unfinished (inr e)) };
   disk_count = λ e. absurd (stopped.unfinished (inl e));
   out_count = λ e. absurd (stopped.unfinished (inl e));
   memory_counts = stopped.memory;
@@ -79,15 +79,15 @@ refusal_kept p s old new r plain quiet same within cause only = stopped_kept p s
 
 -- out of memory, with nothing touched
 pub memory_kept : (p : Promise) (old new : Seen) → Quiet old new → Same old new → Within p.reach old new
-    → new.disk_faults ≡ old.disk_faults → new.out_faults ≡ old.out_faults → Kept p NoMemory old new
-memory_kept p old new quiet same within disk out = stopped_kept p NoMemory old new within quiet (record {
+    → new.disk_faults ≡ old.disk_faults → Kept p NoMemory old new
+memory_kept p old new quiet same within disk = stopped_kept p NoMemory old new within quiet (record {
   unfinished = λ w. elim w [ inl e ↦ cc e | inr e ↦ cc e ];
   plain = tt;
   same = λ _. same;
   early = λ t h. (inr refl, same);
   refused = λ r. absurd r;
   fault = λ e. absurd (cc e);
-  memory = λ _. (disk, out);
+  memory = λ _. (disk, quiet.out_same);
 })
 
 -- the container failed

@@ -17,7 +17,7 @@ use Rattle.vc_app.specs.Promise.{goes, Goes, IsFront, Kept, Lasts, nowhere, Outc
 use Rattle.vc_app.specs.Laws.Settled.{Settled}
 use Rattle.vc_app.specs.Laws.Unopened.{Unopened}
 use Rattle.vc_app.specs.Status.{ended, open_status, work_status}
-use Rattle.vc_app.proofs.PromiseIsKept.{fault_kept, on_ok_map, Quiet, refusal_kept, settled_kept}
+use Rattle.vc_app.proofs.PromiseIsKept.{fault_kept, memory_kept, on_ok_map, Quiet, refusal_kept, settled_kept}
 
 at_least : (a b : ℕ) → ¬ (¬ (a ≤ b)) → a ≤ b
 at_least a b h =
@@ -52,7 +52,8 @@ unopened_kept access late streams reach f opening.NoHeader old new quiet same wi
     (λ t early. absurd (early.refuses admitted))
 unopened_kept access late streams reach f opening.ReadFault old new quiet same within is =
     fault_kept (over_opened access late streams reach f) old new (λ t early. cc (is.refused early.refuses)) within quiet (is.fault refl)
-unopened_kept access late streams reach f opening.NoMemory old new quiet same within is = absurd (is.memory refl)
+unopened_kept access late streams reach f opening.NoMemory old new quiet same within is =
+    memory_kept (over_opened access late streams reach f) old new quiet same within (is.memory refl)
 
 -- the same, as the command returns it: with an error of its own for that of opening
 pub opening_failed : {E : Type 0} (status : E → Status) (own : OpenError → E) (access : Access) (late : List Status) (streams : Bool)

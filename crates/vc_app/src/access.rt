@@ -7,9 +7,15 @@ ghost use Rattle.vc_outside.specs.Crash.{Outcomes, Stays};
 ghost use Rattle.vc_app.specs.Access.{opened};
 ghost use Rattle.vc_app.specs.Laws.Unopened.{Unopened};
 
-use header_try::{Kind, OpenError, Opened, open_plain};
+use header_race::open_race;
+use header_try::{Kind, OpenError, Opened};
 use kdf_hmac::Password;
-use vc_outside::Store;
+use std::alloc::Global;
+use std::thread::Threads;
+use vc_outside::{NoGate, Store};
+
+/// How many workers share the derivations of an opening. No kind has more derivations.
+const WORKERS: u32 = 4;
 
 /// What opens a volume: the first header of the kind that password and PIM make valid.
 #[derive(Drop)]
@@ -20,8 +26,13 @@ pub struct Access {
 }
 
 impl Access {
-    /// Opens the header.
-    pub fn open<D: Store>(&self, disk: &mut D) -> Result<Opened, OpenError>
+    /// Opens the header. Its derivations run side by side; being out of memory for them hides no fault of a read.
+    pub fn open<R: Threads + Sync, D: Store>(
+        &self,
+        rt: &R,
+        alloc: Global,
+        disk: &mut D,
+    ) -> Result<Opened, OpenError>
         requires { IsPim self.now.pim }
         ensures opened { IfOk result (λ o. IfSome (D.image disk.old) (λ b. opened self.now b ≡ Some o)) }
         ensures unopened { Unopened self.now result (D.image disk.old) (D.size disk.old)
@@ -34,6 +45,20 @@ impl Access {
         ensures crash { Outcomes D.tells (D.moment disk.old) (D.moment disk.new) (D.left_since disk.old)
             (D.left_since disk.new) (D.may_leave disk.old) (D.may_leave disk.new) Stays }
     {
-        open_plain(disk, &self.password, self.pim, self.kind)
+        let faults = disk.faults();
+        let opened = open_race(
+            rt,
+            alloc,
+            disk,
+            &self.password,
+            self.pim,
+            self.kind,
+            WORKERS,
+            &NoGate,
+        );
+        match opened {
+            Err(OpenError::NoMemory) if disk.faults() != faults => Err(OpenError::ReadFault),
+            _ => opened,
+        }
     }
 }

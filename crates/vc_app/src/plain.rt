@@ -25,7 +25,7 @@ use volume_format::{FormatSpec, HiddenSpec};
 /// The call keeps the promise of the command. Arguments that are no command of this call have a promise too:
 /// Usage, with nothing touched.
 pub fn run_plain<R: Threads + Sync, D: Store, O: Sink>(
-    _rt: &R,
+    rt: &R,
     alloc: Global,
     words: &[String],
     disk: D,
@@ -40,7 +40,7 @@ pub fn run_plain<R: Threads + Sync, D: Store, O: Sink>(
     let mut out = out;
     match read_words(alloc, words) {
         Ok(command) => {
-            let status = carry_out(alloc, &mut disk, &mut out, command);
+            let status = carry_out(rt, alloc, &mut disk, &mut out, command);
             (status, disk, out)
         }
         Err(error) => (Status::from(error), disk, out),
@@ -48,7 +48,8 @@ pub fn run_plain<R: Threads + Sync, D: Store, O: Sink>(
 }
 
 // Carries out a command.
-fn carry_out<D: Store, O: Sink>(
+fn carry_out<R: Threads + Sync, D: Store, O: Sink>(
+    rt: &R,
     alloc: Global,
     disk: &mut D,
     out: &mut O,
@@ -110,7 +111,7 @@ fn carry_out<D: Store, O: Sink>(
                 pim,
                 kind,
             };
-            Status::from(run_info(alloc, disk, out, &access))
+            Status::from(run_info(rt, alloc, disk, out, &access))
         }
         Command::Cat {
             path: _path,
@@ -130,7 +131,7 @@ fn carry_out<D: Store, O: Sink>(
                 count,
                 access,
             };
-            Status::from(run_cat(disk, out, &command))
+            Status::from(run_cat(rt, alloc, disk, out, &command))
         }
         Command::Passwd {
             path: _path,
@@ -153,7 +154,7 @@ fn carry_out<D: Store, O: Sink>(
                 pim: new_pim,
                 prf: new_prf,
             };
-            Status::from(run_passwd(disk, out, &command, random))
+            Status::from(run_passwd(rt, alloc, disk, out, &command, random))
         }
         Command::Restore {
             path: _path,
@@ -167,7 +168,7 @@ fn carry_out<D: Store, O: Sink>(
                 pim,
                 kind,
             };
-            Status::from(run_restore(disk, out, &access, random))
+            Status::from(run_restore(rt, alloc, disk, out, &access, random))
         }
         _ => Status::Usage,
     }

@@ -2,7 +2,7 @@
 --
 -- Unopened access r image size before now     the result r, the container's bytes and its length, and its counts of
 --                                             faults before and now
-use Rattle.std.specs.Prelude.{◌≡◌, ◌≢◌, ℕ, List, Option, None, IfSome, IsErrOf, Result, Err}
+use Rattle.std.specs.Prelude.{◌≡◌, ℕ, List, Option, None, IfSome, IsErrOf, Result}
 use Rattle.vc_base.specs.Faults.{Rose}
 use Rattle.vc_layout.specs.Layout.{IsContainerLength}
 use Rattle.header_seal.specs.declared.opened.Opened.{Opened}
@@ -17,4 +17,4 @@ pub record Unopened (access : Access) (r : Result Opened OpenError) (image : Opt
   pub length : (n : ℕ) → IsErrOf r (Length n) → (n ≡ size) × ¬ IsContainerLength n
   pub refused : ¬ IsContainerLength size → IsErrOf r (Length size)
   pub fault : IsErrOf r ReadFault → Rose before now
-  pub memory : r ≢ Err NoMemory
+  pub memory : IsErrOf r NoMemory → now ≡ before

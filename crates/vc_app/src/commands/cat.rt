@@ -18,6 +18,8 @@ use crate::status::Status;
 use cascade_set::{Keyed, Keys};
 use cipher_base::UnitCipher;
 use header_try::{OpenError, Opened};
+use std::alloc::Global;
+use std::thread::Threads;
 use vc_layout::DATA_UNIT;
 use vc_outside::{Sink, Store};
 
@@ -76,13 +78,19 @@ impl From<Result<(), CatError>> for Status {
 }
 
 /// Opens the volume and writes the asked sectors.
-pub fn run_cat<D: Store, O: Sink>(disk: &mut D, out: &mut O, command: &Cat) -> Result<(), CatError>
+pub fn run_cat<R: Threads + Sync, D: Store, O: Sink>(
+    rt: &R,
+    alloc: Global,
+    disk: &mut D,
+    out: &mut O,
+    command: &Cat,
+) -> Result<(), CatError>
     requires { IsPim command.now.access.pim }
     ensures { Kept (promise command.now) (ended cat_status result)
         (seen ⟦<D as Store>⟧ ⟦<O as Sink>⟧ disk.old out.old) (seen ⟦<D as Store>⟧ ⟦<O as Sink>⟧ disk.new out.new) }
 {
     let counts = Counts::new(disk, out);
-    let opened = command.access.open(disk)?;
+    let opened = command.access.open(rt, alloc, disk)?;
     let sectors = opened.fields.volume_size / u64::from(opened.fields.sector);
     if command.first > sectors || command.count > sectors - command.first {
         return Err(CatError::BadSize);

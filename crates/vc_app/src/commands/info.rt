@@ -14,6 +14,7 @@ use crate::status::Status;
 use header_try::{OpenError, Opened};
 use std::alloc::{AllocError, Global};
 use std::fmt::Display;
+use std::thread::Threads;
 use vc_outside::{Sink, Store};
 
 /// Why `info` failed. The container is as before in every case.
@@ -54,7 +55,8 @@ impl From<Result<(), InfoError>> for Status {
 }
 
 /// Opens the volume and writes six lines about its header.
-pub fn run_info<D: Store, O: Sink>(
+pub fn run_info<R: Threads + Sync, D: Store, O: Sink>(
+    rt: &R,
     alloc: Global,
     disk: &mut D,
     out: &mut O,
@@ -65,7 +67,7 @@ pub fn run_info<D: Store, O: Sink>(
         (seen ⟦<D as Store>⟧ ⟦<O as Sink>⟧ disk.old out.old) (seen ⟦<D as Store>⟧ ⟦<O as Sink>⟧ disk.new out.new) }
 {
     let counts = Counts::new(disk, out);
-    let opened = access.open(disk)?;
+    let opened = access.open(rt, alloc, disk)?;
     write_text(alloc, &counts, disk, out, &opened)?;
     Ok(())
 }

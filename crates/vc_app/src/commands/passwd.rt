@@ -14,6 +14,8 @@ use header_try::OpenError;
 use kdf_hmac::{Password, Prf};
 use rand_chacha::ChaCha20Rng;
 use rand_core::SeedableRng;
+use std::alloc::Global;
+use std::thread::Threads;
 use vc_outside::{Sink, Store};
 
 /// What `passwd` is asked: what opens the volume now, and the new password, PIM and PRF. With no PRF that of
@@ -65,7 +67,9 @@ impl From<Result<(), PasswdError>> for Status {
 }
 
 /// Opens the volume, writes both headers of its pair under the new password, and says so.
-pub fn run_passwd<D: Store, O: Sink>(
+pub fn run_passwd<R: Threads + Sync, D: Store, O: Sink>(
+    rt: &R,
+    alloc: Global,
     disk: &mut D,
     out: &mut O,
     command: &Passwd,
@@ -77,7 +81,7 @@ pub fn run_passwd<D: Store, O: Sink>(
         (seen ⟦<D as Store>⟧ ⟦<O as Sink>⟧ disk.old out.old) (seen ⟦<D as Store>⟧ ⟦<O as Sink>⟧ disk.new out.new) }
 {
     let counts = Counts::new(disk, out);
-    let opened = command.access.open(disk)?;
+    let opened = command.access.open(rt, alloc, disk)?;
     let prf = command.prf.unwrap_or(opened.prf);
     let mut rng = ChaCha20Rng::from_seed(random);
     match change(disk, &mut rng, &opened, &command.password, command.pim, prf) {

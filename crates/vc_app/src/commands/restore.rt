@@ -13,6 +13,8 @@ use header_change::restore;
 use header_try::OpenError;
 use rand_chacha::ChaCha20Rng;
 use rand_core::SeedableRng;
+use std::alloc::Global;
+use std::thread::Threads;
 use vc_outside::{Sink, Store};
 
 /// Why `restore` failed.
@@ -55,7 +57,9 @@ impl From<Result<(), RestoreError>> for Status {
 
 /// Opens a backup header, writes the primary header of its pair from it, and says so. The access is to a kind of
 /// backup headers.
-pub fn run_restore<D: Store, O: Sink>(
+pub fn run_restore<R: Threads + Sync, D: Store, O: Sink>(
+    rt: &R,
+    alloc: Global,
     disk: &mut D,
     out: &mut O,
     access: &Access,
@@ -66,7 +70,7 @@ pub fn run_restore<D: Store, O: Sink>(
         (seen ⟦<D as Store>⟧ ⟦<O as Sink>⟧ disk.old out.old) (seen ⟦<D as Store>⟧ ⟦<O as Sink>⟧ disk.new out.new) }
 {
     let counts = Counts::new(disk, out);
-    let opened = access.open(disk)?;
+    let opened = access.open(rt, alloc, disk)?;
     let mut rng = ChaCha20Rng::from_seed(random);
     match restore(disk, &mut rng, &opened, &access.password, access.pim) {
         Ok(()) => {}

@@ -128,17 +128,19 @@ fn small_container_by_rows(rt: HostRuntime) -> Result<(), Fail> {
     Ok(())
 }
 
-// Status, bytes written, faults counted, the read that is missed, and how. Read 0 is the header's; then come 128,
-// 128 and 44 sectors.
+// Status, bytes written, faults counted, the read that is missed, and how. The reads 0 and 1 are those of the two
+// headers, before any key is derived; then come 128, 128 and 44 sectors.
 static MISSED_READS: &str = "\
 7;0;1;0;fails
 7;0;1;1;fails
-7;65536;1;2;fails
-7;131072;1;3;fails
-0;153600;0;4;fails
+7;0;1;2;fails
+7;65536;1;3;fails
+7;131072;1;4;fails
+0;153600;0;5;fails
 7;153600;1;0;recovers
-7;153600;1;2;recovers
-7;153600;1;3;recovers";
+7;153600;1;1;recovers
+7;153600;1;3;recovers
+7;153600;1;4;recovers";
 
 #[test]
 fn a_missed_read_is_a_container_fault(rt: HostRuntime) -> Result<(), Fail> {

@@ -116,14 +116,16 @@ fn a_sink_takes_what_it_can_of_a_text(rt: HostRuntime) -> Result<(), Fail> {
     Ok(())
 }
 
-// Also if the store recovered from the fault: nothing was written by then.
+// Also if the store recovered from the fault: nothing was written by then. Both headers are read first.
 #[test]
 fn a_missed_read_is_a_container_fault_of_info(rt: HostRuntime) -> Result<(), Fail> {
     let image = whole(&rt)?;
     for (at, miss, wanted, length) in [
         (0, Miss::Fails, Status::DiskFault, 0),
         (0, Miss::Recovers, Status::DiskFault, 0),
-        (1, Miss::Fails, Status::Done, 72),
+        (1, Miss::Fails, Status::DiskFault, 0),
+        (1, Miss::Recovers, Status::DiskFault, 0),
+        (2, Miss::Fails, Status::Done, 72),
     ] {
         let disk = MissingStore::new(image.clone()?, at, miss);
         let (status, _disk, out) = run(&rt, INFO, disk)?;

@@ -53,7 +53,7 @@ returns-then-command-sectors g c =
     (outside command.first command.count sectors passes) in
     refusal_kept (promise command) BadSize (seen g.D.Store g.O.Sink c.args.disk.now c.args.out.now)
     (seen g.D.Store g.O.Sink c.open.new.disk c.args.out.now) tt tt
-    (record { contents = refl; disk_later = c.open.ensures.later; out_later = omega arith })
+    (record { contents = refl; disk_later = c.open.ensures.later; out_same = refl })
     (record { image = c.open.ensures.image; size = c.open.ensures.size })
     (record { same = record { image = c.open.ensures.image; size = c.open.ensures.size }; crash = c.open.ensures.crash })
     (inr (record {
@@ -70,7 +70,7 @@ returns-in_err-opened g c =
     = record { image = c.open.ensures.image; size = c.open.ensures.size } in
     opening_failed cat_status (λ e. Open e) command.access (BadSize ∷ []) true nowhere (outcome command) c.open.result
     c.in_err-opened.field-0.0 c.from_residual.result _ _ c.in_err-opened.was c.from_residual.ensures.1 refl
-    (record { contents = refl; disk_later = c.open.ensures.later; out_later = omega arith }) same
+    (record { contents = refl; disk_later = c.open.ensures.later; out_same = refl }) same
     (record { same = same; crash = c.open.ensures.crash }) c.open.ensures.unopened
 
 -- the volume has the sectors

@@ -16,7 +16,7 @@ returns-in-Err-WriteFault g c =
     fault_kept (promise c.args.spec.now c.args.random) (seen g.D.Store g.O.Sink c.args.disk.now c.args.out.now)
     (seen g.D.Store g.O.Sink c.format_outer.new.disk c.args.out.now)
     (λ t early. let is = c.in-Err-WriteFault.ensures.bad_size.1 early.refuses in let here = c.in-Err-WriteFault.field-0-is in cc) tt
-    (record { contents = refl; disk_later = c.format_outer.ensures.cause.later; out_later = omega arith })
+    (record { contents = refl; disk_later = c.format_outer.ensures.cause.later; out_same = refl })
     (c.in-Err-WriteFault.ensures.cause.rose (ap (λ e. Err e) c.in-Err-WriteFault.field-0-is))
 
 pub returns-in-Err-NoMemory : goal.returns-in-Err-NoMemory
@@ -24,9 +24,9 @@ returns-in-Err-NoMemory g c =
     let none = ap (λ e. Err e) c.in-Err-NoMemory.field-0-is in
     memory_kept (promise c.args.spec.now c.args.random) (seen g.D.Store g.O.Sink c.args.disk.now c.args.out.now)
     (seen g.D.Store g.O.Sink c.format_outer.new.disk c.args.out.now)
-    (record { contents = refl; disk_later = c.format_outer.ensures.cause.later; out_later = omega arith })
+    (record { contents = refl; disk_later = c.format_outer.ensures.cause.later; out_same = refl })
     (record { image = c.in-Err-NoMemory.ensures.same_image none; size = c.in-Err-NoMemory.ensures.same_size none })
-    tt (c.in-Err-NoMemory.ensures.same_faults none) refl
+    tt (c.in-Err-NoMemory.ensures.same_faults none)
 
 -- the container is made
 made : (g : Over) (c : After-finish g) → Kept (promise c.args.spec.now c.args.random) (ended work_status c.finish.result)

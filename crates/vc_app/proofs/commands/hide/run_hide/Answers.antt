@@ -23,7 +23,7 @@ returns-in-Err-WriteFault g c =
     (seen g.D.Store g.O.Sink c.format_hidden.new.disk c.args.out.now)
     (λ t early. let is = c.in-Err-WriteFault.ensures.bad_size.1 early.refuses in let here = c.in-Err-WriteFault.field-0-is in cc)
     (inr (in_slots _ _ c.format_hidden.ensures.outside c.format_hidden.ensures.size))
-    (record { contents = refl; disk_later = c.format_hidden.ensures.cause.later; out_later = omega arith })
+    (record { contents = refl; disk_later = c.format_hidden.ensures.cause.later; out_same = refl })
     (c.in-Err-WriteFault.ensures.cause.rose (ap (λ e. Err e) c.in-Err-WriteFault.field-0-is))
 
 -- the hidden volume is made

@@ -28,7 +28,7 @@ returns-in_err-opened g c =
     = record { image = c.open.ensures.image; size = c.open.ensures.size } in
     opening_failed passwd_status (λ e. Open e) command.access [] false _ _ c.open.result
     c.in_err-opened.field-0.0 c.from_residual.result _ _ c.in_err-opened.was c.from_residual.ensures.1 refl
-    (record { contents = refl; disk_later = c.open.ensures.later; out_later = omega arith }) same
+    (record { contents = refl; disk_later = c.open.ensures.later; out_same = refl }) same
     (inl (record { same = same; crash = c.open.ensures.crash })) c.open.ensures.unopened
 
 -- only bytes of the two slots may differ, and a header opens after a crash
@@ -56,7 +56,7 @@ returns-in-Err g c =
     fault_kept (promise c.args.command.now c.args.random) (seen g.D.Store g.O.Sink c.args.disk.now c.args.out.now)
     (seen g.D.Store g.O.Sink c.change.new.disk c.args.out.now)
     (λ t early. early.refuses c.in_ok-opened.ensures.in_range) (inr (slots g (goal.at.returns-in-Err g c).After-change))
-    (record { contents = refl; disk_later = omega (arith, c.open.ensures.later, c.change.ensures.cause.later); out_later = omega arith })
+    (record { contents = refl; disk_later = omega (arith, c.open.ensures.later, c.change.ensures.cause.later); out_same = refl })
     (omega (arith, c.open.ensures.later, rose))
 
 -- the work is whole
