@@ -113,7 +113,7 @@ def sizes(rows, folder):
             image = b"\x5a" * length
             left = hidden(image, sector, HIDDEN_PASSWORD, 1, HIDDEN_KEY, sector=sector) if status == 0 else None
             rows.row(f"hide: into {length} bytes with {sector}", hide_words(path, sector, HIDDEN_KEY, *how), status,
-                     b"ok\n" if status == 0 else b"", left=left)
+                     b"ok\n" if status == 0 else b"", length=length, left=left)
             made = os.path.join(folder, "sector.vc")
             rows.row(f"format: {length} bytes with {sector}", format_words(made, length, OUTER_KEY.hex(), *how),
                      6 if status else 0,
