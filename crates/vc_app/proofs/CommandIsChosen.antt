@@ -8,9 +8,9 @@ use Rattle.vc_outside.proofs.NothingMore.{nothing_more}
 use Rattle.vc_app.specs.declared.status.Status.{Status}
 use Rattle.vc_app.specs.declared.status.Status.TheVariants.{Usage}
 use Rattle.vc_app.specs.Commands.{promise_by, promise_of, promise_of_line}
-use Rattle.vc_app.specs.Promise.{anywhere, Kept, no_command, nowhere, part, Reach, Seen, Unchanged, Within}
+use Rattle.vc_app.specs.Promise.{Kept, no_command, Seen, Unchanged}
 use Rattle.vc_app.specs.Status.{words_status}
-use Rattle.vc_app.proofs.PromiseIsKept.{memory_kept, refusal_kept, Quiet}
+use Rattle.vc_app.proofs.PromiseIsKept.{memory_kept, refusal_kept, unchanged_within, Quiet}
 
 nothing_written : (now : Seen) → Quiet now now
 nothing_written now = record { contents = refl; disk_later = omega arith; out_same = refl }
@@ -21,15 +21,10 @@ nothing_changed now = record {
   crash = nothing_more now.tells now.moment now.left_since now.may_leave;
 }
 
-nothing_reached : (r : Reach) (now : Seen) → Within r now now
-nothing_reached nowhere now = nothing_changed now
-nothing_reached (part only left) now = inl (nothing_changed now)
-nothing_reached anywhere now = tt
-
 -- what is no command is Usage
 usage_kept : (now : Seen) → Kept no_command Usage now now
 usage_kept now =
-    refusal_kept no_command Usage now now tt tt (nothing_written now) (nothing_changed now).same (nothing_changed now)
+    refusal_kept no_command Usage now now tt tt (nothing_written now) (nothing_changed now)
     (inl (record { refuses = λ h. h; comes = refl })) (λ t early. sym early.comes)
 
 pub line_kept : (arguments : List Text) (l : Line) (s : Status) (old new : Seen) → line arguments ≡ Some l
@@ -47,4 +42,4 @@ pub unread_kept : (arguments : List Text) (r : Result Command WordsError) (e : W
 unread_kept arguments r words.Usage now is none = none_kept arguments now (none is)
 unread_kept arguments r words.NoMemory now is none =
     memory_kept (promise_of arguments) now now (nothing_written now) (nothing_changed now).same
-    (nothing_reached (promise_of arguments).reach now) refl
+    (unchanged_within (promise_of arguments).reach now now (nothing_changed now)) (λ t early. nothing_changed now) refl

@@ -13,7 +13,7 @@ use Rattle.vc_app.specs.declared.status.Status.{Status}
 use Rattle.vc_app.specs.declared.status.Status.TheVariants.{Done, Usage, NoHeader, NoHidden, Length, BadSize, DiskFault, OutFault, NoMemory, ClientCut, ClientMagic, ClientFault}
 use Rattle.vc_app.specs.Laws.Settled.{Settled}
 use Rattle.vc_app.specs.Status.{ended, IsAfterWork, IsOfPlain, IsRefusal, work_status}
-use Rattle.vc_app.specs.Promise.{goes, Goes, IsComplete, IsEarly, IsFront, IsLate, Kept, Outcome, Plan, Promise, refused, Same, Seen, status_in, Whole, Within}
+use Rattle.vc_app.specs.Promise.{goes, Goes, IsComplete, IsEarly, IsFront, IsLate, Kept, Outcome, Plan, Promise, anywhere, nowhere, part, Reach, refused, Same, Seen, status_in, Unchanged, Whole, Within}
 use Rattle.vc_app.proofs.Growth.{front_of_none}
 
 -- nothing was written
@@ -28,14 +28,21 @@ front_of_nothing (Some (refused s)) old new same = same
 front_of_nothing (Some (goes plan)) old new same =
     subst (λ (x : Option (List ℕ)). GrowsByFront old x plan.output) (sym same) (front_of_none old plan.output)
 
+-- what is unchanged is in reach
+pub unchanged_within : (r : Reach) (old new : Seen) → Unchanged old new → Within r old new
+unchanged_within nowhere old new unchanged = unchanged
+unchanged_within (part only left) old new unchanged = inl unchanged
+unchanged_within anywhere old new unchanged = tt
+
 -- ---- nothing is written
 
 -- how such a call ended
 record Stopped (p : Promise) (s : Status) (old new : Seen) : Type 0 where
   pub unfinished : IsAfterWork s → ⊥
   pub plain : IsOfPlain s
-  pub same : IsRefusal s ⊎ (s ≡ NoMemory) → Same old new
-  pub early : (t : Status) → IsEarly p t old → ((s ≡ t) ⊎ (s ≡ NoMemory)) × Same old new
+  pub same : IsRefusal s → Unchanged old new
+  pub no_memory : s ≡ NoMemory → Same old new
+  pub early : (t : Status) → IsEarly p t old → ((s ≡ t) ⊎ (s ≡ NoMemory)) × Unchanged old new
   pub refused : IsRefusal s → IsEarly p s old ⊎ IsLate p s old
   pub fault : s ≡ DiskFault → Rose old.disk_faults new.disk_faults
   pub memory : s ≡ NoMemory → (new.disk_faults ≡ old.disk_faults) × (new.out_faults ≡ old.out_faults)
@@ -48,8 +55,8 @@ stopped_kept p s old new within quiet stopped = record {
   quiet = λ _. quiet.contents;
   quiet_fault = λ _ _. quiet.contents;
   whole = λ w. absurd (stopped.unfinished w);
-  same = λ r. stopped.same (inl r);
-  no_memory = λ e. inl (stopped.same (inr e));
+  same = stopped.same;
+  no_memory = λ e. inl (stopped.no_memory e);
   within = within;
   early = λ t h. let k = stopped.early t h in (k.0, k.1, quiet.contents);
   refused = stopped.refused;
@@ -65,26 +72,29 @@ stopped_kept p s old new within quiet stopped = record {
 no_end : (s t : Status) → (IsRefusal t → ⊥) → IsRefusal s → s ≡ t → ⊥
 no_end s t other r e = other (subst IsRefusal e r)
 
-pub refusal_kept : (p : Promise) (s : Status) (old new : Seen) → IsRefusal s → IsOfPlain s → Quiet old new → Same old new
-    → Within p.reach old new → (IsEarly p s old ⊎ IsLate p s old) → ((t : Status) → IsEarly p t old → s ≡ t) → Kept p s old new
-refusal_kept p s old new r plain quiet same within cause only = stopped_kept p s old new within quiet (record {
-  unfinished = λ w. elim w [ inl e ↦ no_end s Done (λ x. x) r e | inr e ↦ no_end s OutFault (λ x. x) r e ];
-  plain = plain;
-  same = λ _. same;
-  early = λ t h. (inl (only t h), same);
-  refused = λ _. cause;
-  fault = λ e. absurd (no_end s DiskFault (λ x. x) r e);
-  memory = λ e. absurd (no_end s NoMemory (λ x. x) r e);
-})
+pub refusal_kept : (p : Promise) (s : Status) (old new : Seen) → IsRefusal s → IsOfPlain s → Quiet old new → Unchanged old new
+    → (IsEarly p s old ⊎ IsLate p s old) → ((t : Status) → IsEarly p t old → s ≡ t) → Kept p s old new
+refusal_kept p s old new r plain quiet unchanged cause only =
+    stopped_kept p s old new (unchanged_within p.reach old new unchanged) quiet (record {
+      unfinished = λ w. elim w [ inl e ↦ no_end s Done (λ x. x) r e | inr e ↦ no_end s OutFault (λ x. x) r e ];
+      plain = plain;
+      same = λ _. unchanged;
+      no_memory = λ e. absurd (no_end s NoMemory (λ x. x) r e);
+      early = λ t h. (inl (only t h), unchanged);
+      refused = λ _. cause;
+      fault = λ e. absurd (no_end s DiskFault (λ x. x) r e);
+      memory = λ e. absurd (no_end s NoMemory (λ x. x) r e);
+    })
 
--- out of memory, with nothing touched
+-- out of memory, with the bytes as they were, and with nothing touched if the command isn't admitted
 pub memory_kept : (p : Promise) (old new : Seen) → Quiet old new → Same old new → Within p.reach old new
-    → new.disk_faults ≡ old.disk_faults → Kept p NoMemory old new
-memory_kept p old new quiet same within disk = stopped_kept p NoMemory old new within quiet (record {
+    → ((t : Status) → IsEarly p t old → Unchanged old new) → new.disk_faults ≡ old.disk_faults → Kept p NoMemory old new
+memory_kept p old new quiet same within early disk = stopped_kept p NoMemory old new within quiet (record {
   unfinished = λ w. elim w [ inl e ↦ cc e | inr e ↦ cc e ];
   plain = tt;
-  same = λ _. same;
-  early = λ t h. (inr refl, same);
+  same = λ r. absurd r;
+  no_memory = λ _. same;
+  early = λ t h. (inr refl, early t h);
   refused = λ r. absurd r;
   fault = λ e. absurd (cc e);
   memory = λ _. (disk, quiet.out_same);
@@ -96,7 +106,8 @@ pub fault_kept : (p : Promise) (old new : Seen) → ((t : Status) → IsEarly p 
 fault_kept p old new not_early within quiet rose = stopped_kept p DiskFault old new within quiet (record {
   unfinished = λ w. elim w [ inl e ↦ cc e | inr e ↦ cc e ];
   plain = tt;
-  same = λ h. absurd (elim h [ inl r ↦ r | inr e ↦ cc e ]);
+  same = λ r. absurd r;
+  no_memory = λ e. absurd (cc e);
   early = λ t h. absurd (not_early t h);
   refused = λ r. absurd r;
   fault = λ _. rose;

@@ -13,11 +13,11 @@ use Rattle.vc_app.specs.declared.status.Status.{Status}
 use Rattle.vc_app.specs.declared.status.Status.TheVariants.{NoHeader, Length}
 use Rattle.vc_app.specs.Access.{opened, outcome_of, over_opened}
 use Rattle.vc_outside.specs.Told.{Both, Grows, GrowsByFront}
-use Rattle.vc_app.specs.Promise.{goes, Goes, IsFront, Kept, Lasts, nowhere, Outcome, Plan, Reach, refused, Same, Seen, Within}
+use Rattle.vc_app.specs.Promise.{goes, Goes, IsFront, Kept, Lasts, nowhere, Outcome, Plan, Reach, refused, Seen, Unchanged, Within}
 use Rattle.vc_app.specs.Laws.Settled.{Settled}
 use Rattle.vc_app.specs.Laws.Unopened.{Unopened}
 use Rattle.vc_app.specs.Status.{ended, open_status, work_status}
-use Rattle.vc_app.proofs.PromiseIsKept.{fault_kept, memory_kept, on_ok_map, Quiet, refusal_kept, settled_kept}
+use Rattle.vc_app.proofs.PromiseIsKept.{fault_kept, memory_kept, on_ok_map, Quiet, refusal_kept, settled_kept, unchanged_within}
 
 at_least : (a b : ℕ) → ¬ (¬ (a ≤ b)) → a ≤ b
 at_least a b h =
@@ -38,33 +38,35 @@ none_comes access f None none = tt
 none_comes access f (Some b) none = ap (outcome_of (λ o. f o b)) none
 
 unopened_kept : (access : Access) (late : List Status) (streams : Bool) (reach : Reach) (f : Opened → List ℕ → Outcome) (e : OpenError)
-    (old new : Seen) → Quiet old new → Same old new → Within reach old new → Unopened access (Err e) old.image old.size old.disk_faults new.disk_faults
+    (old new : Seen) → Quiet old new → Unchanged old new → Unopened access (Err e) old.image old.size old.disk_faults new.disk_faults
     → Kept (over_opened access late streams reach f) (open_status e) old new
-unopened_kept access late streams reach f (opening.Length n) old new quiet same within is =
+unopened_kept access late streams reach f (opening.Length n) old new quiet unchanged is =
     let here = is.length n refl in
-    refusal_kept (over_opened access late streams reach f) (Length n) old new tt tt quiet same within
+    refusal_kept (over_opened access late streams reach f) (Length n) old new tt tt quiet unchanged
     (inl (record { refuses = λ h. here.1 (subst IsContainerLength (sym here.0) h); comes = ap (λ (k : ℕ). Length k) here.0 }))
     (λ t early. ap (λ (k : ℕ). Length k) here.0 ∙ sym early.comes)
-unopened_kept access late streams reach f opening.NoHeader old new quiet same within is =
+unopened_kept access late streams reach f opening.NoHeader old new quiet unchanged is =
     let admitted : IsContainerLength old.size = in_range old.size (λ no. cc (is.refused no)) in
-    refusal_kept (over_opened access late streams reach f) NoHeader old new tt tt quiet same within
+    refusal_kept (over_opened access late streams reach f) NoHeader old new tt tt quiet unchanged
     (inr (record { admitted = admitted; named = (0, omega arith, refl); comes = none_comes access f old.image (is.none_valid refl) }))
     (λ t early. absurd (early.refuses admitted))
-unopened_kept access late streams reach f opening.ReadFault old new quiet same within is =
-    fault_kept (over_opened access late streams reach f) old new (λ t early. cc (is.refused early.refuses)) within quiet (is.fault refl)
-unopened_kept access late streams reach f opening.NoMemory old new quiet same within is =
-    memory_kept (over_opened access late streams reach f) old new quiet same within (is.memory refl)
+unopened_kept access late streams reach f opening.ReadFault old new quiet unchanged is =
+    fault_kept (over_opened access late streams reach f) old new (λ t early. cc (is.refused early.refuses))
+    (unchanged_within reach old new unchanged) quiet (is.fault refl)
+unopened_kept access late streams reach f opening.NoMemory old new quiet unchanged is =
+    memory_kept (over_opened access late streams reach f) old new quiet unchanged.same
+    (unchanged_within reach old new unchanged) (λ t early. unchanged) (is.memory refl)
 
 -- the same, as the command returns it: with an error of its own for that of opening
 pub opening_failed : {E : Type 0} (status : E → Status) (own : OpenError → E) (access : Access) (late : List Status) (streams : Bool)
     (reach : Reach) (f : Opened → List ℕ → Outcome) (r : Result Opened OpenError) (e : OpenError) (x : Result (Unit {0}) E) (old new : Seen)
-    → r ≡ Err e → IsErrAnd x (λ y. y ≡ own e) → status (own e) ≡ open_status e → Quiet old new → Same old new → Within reach old new
+    → r ≡ Err e → IsErrAnd x (λ y. y ≡ own e) → status (own e) ≡ open_status e → Quiet old new → Unchanged old new
     → Unopened access r old.image old.size old.disk_faults new.disk_faults
     → Kept (over_opened access late streams reach f) (ended status x) old new
-opening_failed status own access late streams reach f r e (Ok u) old new is error same quiet unchanged within unopened = absurd error
-opening_failed status own access late streams reach f r e (Err y) old new is error same quiet unchanged within unopened =
+opening_failed status own access late streams reach f r e (Ok u) old new is error same quiet unchanged unopened = absurd error
+opening_failed status own access late streams reach f r e (Err y) old new is error same quiet unchanged unopened =
     subst (λ (s : Status). Kept (over_opened access late streams reach f) s old new) (sym (ap status error ∙ same))
-    (unopened_kept access late streams reach f e old new quiet unchanged within
+    (unopened_kept access late streams reach f e old new quiet unchanged
     (subst (λ (r : Result Opened OpenError). Unopened access r old.image old.size old.disk_faults new.disk_faults) is unopened))
 
 -- ---- a header was opened, and a plan comes of it

@@ -1,7 +1,7 @@
 -- How a command that writes headers of an opened volume keeps its promise.
 --
--- Opening lets a crash leave nothing more, so what a crash leaves at any moment since the command began is what it
--- might leave then, or one of these after a step of the headers' change.
+-- Opening lets a crash leave nothing more, so what a crash leaves at any moment since the command began, or now, is
+-- what it might leave then, or one of these after a step of the headers' change.
 use Rattle.std.proofs.Common.{◌≡◌, ◌⊎◌, ℕ, Bool, true, List, Option, Some, None, refl, sym, ◌∙◌, inl, inr, subst, arith}
 use Rattle.std.specs.Prelude.{IfSome, MatchOption}
 use Rattle.vc_layout.specs.declared.slots.Slot.{Slot}
@@ -16,22 +16,25 @@ use Rattle.header_change.proofs.Slots.{no_change}
 use Rattle.header_change.proofs.Steps.{fields_last, openings_last, stays_in_backup, stays_in_either}
 use Rattle.vc_app.specs.declared.access.Access.{Access}
 use Rattle.vc_app.specs.Access.{opened}
-use Rattle.vc_app.specs.Promise.{InPart, Seen}
+use Rattle.vc_app.specs.Promise.{InPart, MayBeLeft, Seen}
 use Rattle.vc_app.specs.Rewriting.{AtStop, OfHeader}
 
--- what a crash leaves since the command began, if it opened a header before its step
+-- what a crash leaves since the command began, or now, if it opened a header before its step
 pub reached : (tells : Bool) (start middle now : ℕ) (first second third : ℕ → List ℕ → Type 0) (could between can : List ℕ → Type 0)
     (step : List ℕ → List ℕ → Type 0) → (tells ≡ true → (c : List ℕ) → first start c → could c)
     → Outcomes tells start middle first second could between Stays
     → AtEachMoment tells middle now second third between can step
-    → tells ≡ true → (c : List ℕ) → third start c → could c ⊎ After could step c
+    → tells ≡ true → (c : List ℕ) → third start c ⊎ can c → could c ⊎ After could step c
 reached tells start middle now first second third could between can step only_now one two modelled c left =
-    elim (two.nothing_else modelled start c (one.later modelled) left) [
-      | inl earlier ↦ inl (elim (one.nothing_else modelled start c (omega arith) earlier) [
-        | inl past ↦ only_now modelled c past
-        | inr may ↦ was c may
-      ])
-      | inr after ↦ inr (after.0, was after.0 after.1, after.2)
+    elim left [
+      | inl since ↦ elim (two.nothing_else modelled start c (one.later modelled) since) [
+        | inl earlier ↦ inl (elim (one.nothing_else modelled start c (omega arith) earlier) [
+          | inl past ↦ only_now modelled c past
+          | inr may ↦ was c may
+        ])
+        | inr after ↦ inr (after.0, was after.0 after.1, after.2)
+      ]
+      | inr can_now ↦ let after = two.follows modelled c can_now in inr (after.0, was after.0 after.1, after.2)
     ]
   where
     was : (d : List ℕ) → between d → could d
@@ -90,7 +93,7 @@ both_of_opened access o only (Some b) (Some c) is h = subst (λ (x : Option Open
 pub in_slots : (access : Access) (only : Opened → List ℕ → List ℕ → Type 0) (stays : Opened → (List ℕ → Type 0) → List ℕ → OfHeader → Type 0)
     (o : Opened) (old new : Seen) → IfSome old.image (λ b. opened access b ≡ Some o) → Both old.image new.image (only o)
     → new.size ≡ old.size
-    → (new.tells ≡ true → (c : List ℕ) → new.left_since old.moment c → AtStop (only o) (stays o old.may_leave c) old.may_leave c)
+    → (new.tells ≡ true → (c : List ℕ) → MayBeLeft old new c → AtStop (only o) (stays o old.may_leave c) old.may_leave c)
     → InPart (λ b c. MatchOption (opened access b) ⊥ (λ o. only o b c))
     (λ b could c. MatchOption (opened access b) ⊥ (λ o. AtStop (only o) (stays o could c) could c)) old new
 in_slots access only stays o old new is outside size crash = record {

@@ -9,6 +9,8 @@
 -- Reach                how far a command may change the container, whatever happens
 -- Promise              what a command does
 -- Seen                 what contracts see of a container and an output at one moment
+-- Unchanged old new    the container is as it was, also in what a crash leaves
+-- InPart .. old new    a part of the container may differ, also in what a crash leaves during the call and after it
 -- Whole p old new      the work on the container is whole
 -- IsEarly p s old      what is asked and the length refuse the command with the status s
 -- IsLate p s old       the container's bytes do
@@ -36,8 +38,8 @@ pub data Outcome : Type 0 where
 
 pub data Reach : Type 1 where
   nowhere : Reach
-  -- which bytes may differ, and what holds of each image that a crash may leave at any moment of the call, by the
-  -- bytes before it and by what a crash might leave then
+  -- which bytes may differ, and what holds of each image that a crash may leave at any moment of the call or after it,
+  -- by the bytes before it and by what a crash might leave then
   part : (List ℕ → List ℕ → Type 0) → (List ℕ → (List ℕ → Type 0) → List ℕ → Type 0) → Reach
   anywhere : Reach
 
@@ -109,11 +111,15 @@ pub record Unchanged (old new : Seen) : Type 0 where
   pub same : Same old new
   pub crash : LeavesNoMore old new
 
+-- a crash at some moment of the call, or after it, may leave this
+abbrev pub MayBeLeft : Seen → Seen → List ℕ → Type 0
+MayBeLeft old new c = new.left_since old.moment c ⊎ new.may_leave c
+
 pub record InPart (only : List ℕ → List ℕ → Type 0) (left : List ℕ → (List ℕ → Type 0) → List ℕ → Type 0) (old new : Seen)
     : Type 0 where
   pub outside : Both old.image new.image only
   pub size : new.size ≡ old.size
-  pub crash : new.tells ≡ true → (c : List ℕ) → new.left_since old.moment c → IfSome old.image (λ b. left b old.may_leave c)
+  pub crash : new.tells ≡ true → (c : List ℕ) → MayBeLeft old new c → IfSome old.image (λ b. left b old.may_leave c)
 
 abbrev pub Within : Reach → Seen → Seen → Type 0
 Within nowhere old new = Unchanged old new
@@ -162,14 +168,14 @@ pub record Kept (p : Promise) (s : Status) (old new : Seen) : Type 0 where
   pub front : IsFront (p.plan old.image) old.contents new.contents
   pub quiet : IsRefusal s → new.contents ≡ old.contents
   pub quiet_fault : s ≡ DiskFault → p.streams ≡ false → new.contents ≡ old.contents
-  -- What is left of the container. Out of memory, it is as it was or whole.
+  -- What is left of the container. With a refusal it is unchanged. Out of memory, its bytes are as they were or whole.
   pub whole : IsAfterWork s → Whole p old new
-  pub same : IsRefusal s → Same old new
+  pub same : IsRefusal s → Unchanged old new
   pub no_memory : s ≡ NoMemory → Same old new ⊎ Whole p old new
   pub within : Within p.reach old new
   -- Why it is refused. NoMemory may come in place of any other status.
   pub early : (t : Status) → IsEarly p t old
-      → ((s ≡ t) ⊎ (s ≡ NoMemory)) × Same old new × (new.contents ≡ old.contents)
+      → ((s ≡ t) ⊎ (s ≡ NoMemory)) × Unchanged old new × (new.contents ≡ old.contents)
   pub refused : IsRefusal s → IsEarly p s old ⊎ IsLate p s old
   pub possible : IsOfPlain s
   -- A fault comes only if the object's count rose in this call, and Done and NoMemory only if neither count did.

@@ -5,7 +5,7 @@ use Rattle.header_seal.specs.declared.opened.Opened.{Opened}
 use Rattle.vc_app.specs.declared.commands.cat.Cat.{Cat}
 use Rattle.vc_app.specs.Access.{opened, outcome_of}
 use Rattle.vc_app.specs.Cat.{asked, cat_status, is_inside, outcome, promise}
-use Rattle.vc_app.specs.Promise.{goes, Kept, nowhere, refused, Same, seen}
+use Rattle.vc_app.specs.Promise.{goes, Kept, nowhere, refused, seen}
 use Rattle.vc_app.specs.declared.status.Status.TheVariants.{BadSize}
 use Rattle.vc_app.proofs.PromiseIsKept.{all_done, done_after, passed_on, refusal_kept}
 use Rattle.vc_app.proofs.Reading.{both_known, image_same, opened_kept, opening_failed}
@@ -54,7 +54,6 @@ returns-then-command-sectors g c =
     refusal_kept (promise command) BadSize (seen g.D.Store g.O.Sink c.args.disk.now c.args.out.now)
     (seen g.D.Store g.O.Sink c.open.new.disk c.args.out.now) tt tt
     (record { contents = refl; disk_later = c.open.ensures.later; out_same = refl })
-    (record { image = c.open.ensures.image; size = c.open.ensures.size })
     (record { same = record { image = c.open.ensures.image; size = c.open.ensures.size }; crash = c.open.ensures.crash })
     (inr (record {
       admitted = c.in_ok-opened.ensures.in_range;
@@ -66,12 +65,11 @@ returns-then-command-sectors g c =
 pub returns-in_err-opened : goal.returns-in_err-opened
 returns-in_err-opened g c =
     let command = c.args.command.now in
-    let same : Same (seen g.D.Store g.O.Sink c.args.disk.now c.args.out.now) (seen g.D.Store g.O.Sink c.open.new.disk c.args.out.now)
-    = record { image = c.open.ensures.image; size = c.open.ensures.size } in
     opening_failed cat_status (λ e. Open e) command.access (BadSize ∷ []) true nowhere (outcome command) c.open.result
     c.in_err-opened.field-0.0 c.from_residual.result _ _ c.in_err-opened.was c.from_residual.ensures.1 refl
-    (record { contents = refl; disk_later = c.open.ensures.later; out_same = refl }) same
-    (record { same = same; crash = c.open.ensures.crash }) c.open.ensures.unopened
+    (record { contents = refl; disk_later = c.open.ensures.later; out_same = refl })
+    (record { same = record { image = c.open.ensures.image; size = c.open.ensures.size }; crash = c.open.ensures.crash })
+    c.open.ensures.unopened
 
 -- the volume has the sectors
 written : (g : Over) (c : After-settle g) → Kept (promise c.args.command.now) (ended work_status c.settle.result)

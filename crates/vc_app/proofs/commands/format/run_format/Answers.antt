@@ -26,7 +26,8 @@ returns-in-Err-NoMemory g c =
     (seen g.D.Store g.O.Sink c.format_outer.new.disk c.args.out.now)
     (record { contents = refl; disk_later = c.format_outer.ensures.cause.later; out_same = refl })
     (record { image = c.in-Err-NoMemory.ensures.same_image none; size = c.in-Err-NoMemory.ensures.same_size none })
-    tt (c.in-Err-NoMemory.ensures.same_faults none)
+    tt (λ t early. let is = c.in-Err-NoMemory.ensures.bad_size.1 early.refuses in let here = c.in-Err-NoMemory.field-0-is in absurd cc)
+    (c.in-Err-NoMemory.ensures.same_faults none)
 
 -- the container is made
 made : (g : Over) (c : After-finish g) → Kept (promise c.args.spec.now c.args.random) (ended work_status c.finish.result)

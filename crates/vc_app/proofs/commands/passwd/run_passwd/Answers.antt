@@ -10,7 +10,7 @@ use Rattle.vc_outside.specs.Told.{Both}
 use Rattle.vc_app.specs.declared.commands.passwd.PasswdError.TheVariants.{Open, Work}
 use Rattle.vc_app.specs.Format.{done_line}
 use Rattle.vc_app.specs.Passwd.{EitherStays, passwd_status, promise, sealing_asked}
-use Rattle.vc_app.specs.Promise.{goes, InPart, Kept, Same, seen, Within}
+use Rattle.vc_app.specs.Promise.{goes, InPart, Kept, seen, Within}
 use Rattle.vc_app.specs.Status.{ended, work_status}
 use Rattle.vc_app.specs.Access.{opened}
 use Rattle.vc_app.specs.Rewriting.{AtStop, sealing}
@@ -24,12 +24,11 @@ use Rattle.vc_app.proofs.commands.passwd.run_passwd.Goals as goal
 pub returns-in_err-opened : goal.returns-in_err-opened
 returns-in_err-opened g c =
     let command = c.args.command.now in
-    let same : Same (seen g.D.Store g.O.Sink c.args.disk.now c.args.out.now) (seen g.D.Store g.O.Sink c.open.new.disk c.args.out.now)
-    = record { image = c.open.ensures.image; size = c.open.ensures.size } in
     opening_failed passwd_status (λ e. Open e) command.access [] false _ _ c.open.result
     c.in_err-opened.field-0.0 c.from_residual.result _ _ c.in_err-opened.was c.from_residual.ensures.1 refl
-    (record { contents = refl; disk_later = c.open.ensures.later; out_same = refl }) same
-    (inl (record { same = same; crash = c.open.ensures.crash })) c.open.ensures.unopened
+    (record { contents = refl; disk_later = c.open.ensures.later; out_same = refl })
+    (record { same = record { image = c.open.ensures.image; size = c.open.ensures.size }; crash = c.open.ensures.crash })
+    c.open.ensures.unopened
 
 -- only bytes of the two slots may differ, and a header opens after a crash
 slots : (g : Over) (c : After-change g)

@@ -8,7 +8,7 @@ use Rattle.vc_outside.specs.Told.{Both}
 use Rattle.vc_app.specs.declared.commands.restore.RestoreError.TheVariants.{Open, Work}
 use Rattle.vc_app.specs.Access.{opened}
 use Rattle.vc_app.specs.Format.{done_line}
-use Rattle.vc_app.specs.Promise.{goes, InPart, Kept, Same, seen, Within}
+use Rattle.vc_app.specs.Promise.{goes, InPart, Kept, seen, Within}
 use Rattle.vc_app.specs.Restore.{BackupStays, promise, restore_status}
 use Rattle.vc_app.specs.Rewriting.{AtStop, sealing}
 use Rattle.vc_app.specs.Status.{ended, work_status}
@@ -21,12 +21,11 @@ use Rattle.vc_app.proofs.commands.restore.run_restore.Goals as goal
 
 pub returns-in_err-opened : goal.returns-in_err-opened
 returns-in_err-opened g c =
-    let same : Same (seen g.D.Store g.O.Sink c.args.disk.now c.args.out.now) (seen g.D.Store g.O.Sink c.open.new.disk c.args.out.now)
-    = record { image = c.open.ensures.image; size = c.open.ensures.size } in
     opening_failed restore_status (λ e. Open e) c.args.access.now [] false _ _ c.open.result
     c.in_err-opened.field-0.0 c.from_residual.result _ _ c.in_err-opened.was c.from_residual.ensures.1 refl
-    (record { contents = refl; disk_later = c.open.ensures.later; out_same = refl }) same
-    (inl (record { same = same; crash = c.open.ensures.crash })) c.open.ensures.unopened
+    (record { contents = refl; disk_later = c.open.ensures.later; out_same = refl })
+    (record { same = record { image = c.open.ensures.image; size = c.open.ensures.size }; crash = c.open.ensures.crash })
+    c.open.ensures.unopened
 
 -- only bytes of the slot may differ, and the backup opens after a crash
 slot : (g : Over) (c : After-restore g)
