@@ -44,7 +44,7 @@ has_units size s fits = record {
 }
 
 -- a body behind the salt at a place: the header there
-header_written : (at : ℕ) (body b : List ℕ) → length body ≡ 448 → at + 512 ≤ length b
+pub header_written : (at : ℕ) (body b : List ℕ) → length body ≡ 448 → at + 512 ≤ length b
     → take 512 (drop at (written (at + 64) body b)) ≡ take 64 (drop at b) ++ body
 header_written at body b long inside =
     let end : at + 512 ≡ at + 64 + 448 = omega arith in

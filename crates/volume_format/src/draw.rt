@@ -15,7 +15,7 @@ const CIPHER_KEYS: usize = 64;
 const WORD: u64 = 4;
 
 /// Fills the bytes with the next bytes of the stream.
-pub(crate) fn draw(rng: &mut ChaCha20Rng, bytes: &mut [u8])
+pub fn next_bytes(rng: &mut ChaCha20Rng, bytes: &mut [u8])
     requires { length bytes.old % 4 ≡ 0 }
     ensures bytes { bytes.new ≡ stream_bytes rng.old 0 (length bytes.old) }
     ensures drawn { rng.new ≡ advanced rng.old (length bytes.old) }
@@ -30,8 +30,20 @@ pub fn next_salt(rng: &mut ChaCha20Rng) -> [u8; SALT]
     ensures drawn { rng.new ≡ advanced rng.old 64 }
 {
     let mut salt = [0u8; SALT];
-    draw(rng, &mut salt);
+    next_bytes(rng, &mut salt);
     salt
+}
+
+/// Fills the bytes with those of the stream from the word on that byte `at` is in. The generator keeps its place.
+pub fn bytes_at(rng: &mut ChaCha20Rng, at: u64, bytes: &mut [u8])
+    requires { length bytes.old % 4 ≡ 0 }
+    ensures bytes { bytes.new ≡ stream_bytes rng.old at (length bytes.old) }
+    ensures rng { rng.new ≡ rng.old }
+{
+    let place = rng.get_word_pos();
+    rng.set_word_pos(place + u128::from(at / WORD));
+    next_bytes(rng, bytes);
+    rng.set_word_pos(place);
 }
 
 /// The salt that is at byte `at` of the stream. The generator keeps its place.
@@ -40,10 +52,7 @@ pub(crate) fn salt_at(rng: &mut ChaCha20Rng, at: u64) -> [u8; SALT]
     ensures rng { rng.new ≡ rng.old }
 {
     let mut salt = [0u8; SALT];
-    let place = rng.get_word_pos();
-    rng.set_word_pos(place + u128::from(at / WORD));
-    draw(rng, &mut salt);
-    rng.set_word_pos(place);
+    bytes_at(rng, at, &mut salt);
     salt
 }
 
@@ -54,6 +63,6 @@ pub(crate) fn key_material(rng: &mut ChaCha20Rng, algorithm: Algorithm) -> [u8; 
 {
     let count = CIPHER_KEYS * usize::from(algorithm.ciphers());
     let mut material = [0u8; MATERIAL];
-    draw(rng, &mut material[..count]);
+    next_bytes(rng, &mut material[..count]);
     material
 }

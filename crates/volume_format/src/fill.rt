@@ -4,7 +4,7 @@ ghost use Rattle.vc_base.specs.Faults.{HasCause};
 ghost use Rattle.vc_outside.specs.Told.{Both, written};
 ghost use Rattle.volume_format.specs.Stream.{advanced, stream_bytes};
 
-use crate::draw::draw;
+use crate::draw::next_bytes;
 use rand_chacha::ChaCha20Rng;
 use vc_outside::{Failed, Store};
 
@@ -49,6 +49,6 @@ fn fill_part<D: Store>(
     ensures size { D.size disk.new ≡ D.size disk.old }
     ensures cause { HasCause (D.faults disk.old) (D.faults disk.new) (IsErr result) }
 {
-    draw(rng, bytes);
+    next_bytes(rng, bytes);
     disk.write_at(at, bytes)
 }

@@ -9,7 +9,7 @@
 //! order in which salts and keys are drawn, are this project's own.
 #![tactic(auto)]
 
-pub use draw::next_salt;
+pub use draw::{bytes_at, next_bytes, next_salt};
 pub use format_error::FormatError;
 pub use hidden::{HiddenSpec, format_hidden};
 pub use outer::{FormatSpec, format_outer};

@@ -1,6 +1,6 @@
 use Rattle.std.proofs.Common.{length, arith}
 use Rattle.volume_format.proofs.Draws.{drawn_bytes, drawn_place}
-use Rattle.volume_format.proofs.draw.draw.Goals as goal
+use Rattle.volume_format.proofs.draw.next_bytes.Goals as goal
 
 pub returns-clause-bytes : goal.returns-clause-bytes
 returns-clause-bytes c =
