@@ -22,6 +22,9 @@ of a hidden volume.
           [--new-prf NAME] [--algorithm NAME]
       writes the standard headers anew, or with --hidden the hidden ones, under another password: ChaCha20 under
       KEY gives the salts, first the primary header's. --restore: the primary header alone, from its backup
+  independent_container.py expand FILE SIZE PASSWORD PIM KEY [--prf NAME] [--algorithm NAME]
+      gives the container SIZE bytes, and its volume all of them up to the new backup headers: ChaCha20 under KEY fills
+      it from its old backup headers on, and then gives the standard header's salt; the backup takes its salt from the fill
 
 The PRFs are sha512, the default, and sha256. The algorithms are the names in
 ALGORITHMS, aes by default. The status is 77 if `cryptography` is missing, or libgcrypt
@@ -253,6 +256,20 @@ def changed(image, place, password, pim, key, prf="sha512", algorithm="aes", *, 
     return bytes(image)
 
 
+def expanded(image, size, password, pim, key, prf="sha512", algorithm="aes"):
+    """The image with this size, and the standard volume with all of it up to the new backup headers."""
+    old = fields_of(decipher(derive(password, image[:64], pim, prf, algorithm), 0, image[64:SECTOR], algorithm))
+    start = len(image) - GROUP
+    words = (size - start + 3) // 4 * 4
+    stream = random_stream(key, words + 64)
+    image = bytearray(image[:start] + stream[:size - start])
+    plain = body(size - GROUP - old.start, old.start, old.material, sector=old.sector)
+    place = size - GROUP
+    image[place:place + SECTOR] = header(password, pim, bytes(image[place:place + 64]), plain, prf, algorithm)
+    image[:SECTOR] = header(password, pim, stream[words:], plain, prf, algorithm)
+    return bytes(image)
+
+
 def read(path, first, count, password, pim, prf="sha512", algorithm="aes"):
     """The deciphered sectors; None if the header is not valid."""
     fields = header_fields(path, 0, password, pim, prf, algorithm)
@@ -272,7 +289,7 @@ def arguments():
     commands = top.add_subparsers(dest="command", required=True)
     for command, words in [("make", "size password pim"), ("cat", "first count password pim"),
                            ("format", "size password pim key"), ("hide", "size password pim key"),
-                           ("change", "password pim new_password new_pim key")]:
+                           ("change", "password pim new_password new_pim key"), ("expand", "size password pim key")]:
         parser = commands.add_parser(command)
         parser.add_argument("file")
         for word in words.split():
@@ -310,6 +327,11 @@ def main(a):
         with open(a.file, "r+b") as file:
             image = changed(file.read(), GROUP // 2 if a.hidden else 0, a.password, a.pim, a.key, **how, new_password=a.new_password,
                             new_pim=a.new_pim, new_prf=a.new_prf or a.prf, restores=a.restore)
+            file.seek(0)
+            file.write(image)
+    elif a.command == "expand":
+        with open(a.file, "r+b") as file:
+            image = expanded(file.read(), a.size, a.password, a.pim, a.key, **how)
             file.seek(0)
             file.write(image)
     else:
