@@ -47,11 +47,21 @@ module _ {S C : Type 0} (sector : ℕ) (r : Request) (payload : List ℕ) (v w :
   acts_alone a o es asks call leaves replied =
       acts_with a o es [] asks call leaves (subst (λ (bytes : List ℕ). Replied held now bytes how) (sym (append-nil (reply (error_of o) r.cookie))) replied)
 
+-- what holds of a value if there is one
+pub of_some : {A : Type 0} (P : A → Type 0) (o : Option A) (x : A) → o ≡ Some x → IfSome o P → P x
+of_some P o x is holds = subst (λ (p : Option _). IfSome p P) is holds
+
 -- a payload that was kept
 pub kept_size : {A : Type 0} (a b : Option (List ℕ)) (n : ℕ) (items : A → List ℕ) (kept : Option A) → TakesPayload a b n (option_map items kept)
     → IfSome kept (λ v. length (items v) ≡ n)
 kept_size a b n items None p = tt
 kept_size a b n items (Some v) p = ap length p.is ∙ p.size
+
+-- a payload that was kept is the one that was taken
+pub kept_is : {A : Type 0} (a b : Option (List ℕ)) (n : ℕ) (items : A → List ℕ) (kept : Option A) (p : TakesPayload a b n (option_map items kept))
+    → IfSome kept (λ v. items v ≡ p.payload)
+kept_is a b n items None p = tt
+kept_is a b n items (Some v) p = p.is
 
 -- nothing came of the bytes that were taken
 pub nothing_done : {S C : Type 0} (sector : ℕ) (v : View (State S C) Entry) (left later held : Option (List ℕ)) (how : End) → NoRequest left later how

@@ -2,17 +2,19 @@
 --
 -- A head that was taken decides how bytes start: with a disconnect, or with a request that has the payload after the head.
 -- So a session that has taken both, and then answered, has answered the first request of all bytes that begin so.
-use Rattle.std.proofs.Common.{◌≡◌, ◌⊎◌, ℕ, ◌==◌, true, false, List, [], ◌++◌, take, drop, Option, Some, None, IfSome, append_assoc, inl, refl, sym, ap, ◌∙◌, subst}
-use Rattle.std.proofs.lemmas.List.{append-nil, take-append-drop}
-use Rattle.nbd_wire.specs.Frames.{after_head, Start, asks, payload_length, start}
+use Rattle.std.proofs.Common.{◌≡◌, ◌⊎◌, ℕ, ◌==◌, true, false, List, [], ◌++◌, take, drop, Option, Some, None, IfSome, append_assoc, inl, refl, sym, ap, ◌∙◌, subst, arith}
+use Rattle.std.proofs.lemmas.List.{append-nil, length-drop, take-append-drop}
+use Rattle.nbd_wire.proofs.AnsweredOnward.{unread-start}
+use Rattle.nbd_wire.specs.Frames.{after_head, Start, leaves, asks, payload_length, start}
 use Rattle.nbd_wire.specs.Replies.{IsAnswered}
 use Rattle.nbd_wire.specs.declared.end.End.{End}
 use Rattle.nbd_wire.specs.declared.end.End.TheVariants as end
 use Rattle.nbd_wire.specs.declared.request.Request.{Request}
 use Rattle.sector_model.specs.declared.entry.Event.{Event}
-use Rattle.vc_outside.specs.Told.{Grows, GrowsByFront, Shrinks}
+use Rattle.vc_outside.specs.Told.{Grows, Shrinks}
 use Rattle.nbd_session.specs.Session.{Serves}
 use Rattle.nbd_session.specs.Laws.Onward.{Answers, NoRequest, OnlyEnds}
+use Rattle.nbd_session.specs.Laws.Sent.{GrowsInPart}
 use Rattle.nbd_session.specs.Laws.Taken.{CutsPayload, TakesHead, TakesPayload}
 use Rattle.nbd_session.proofs.NoHead.{short_bytes}
 use Rattle.nbd_session.proofs.RequestByRequest.{serves_stop}
@@ -38,6 +40,7 @@ module _ (a b : Option (List ℕ)) (r : Request) (h : TakesHead a b r) where
       alone = subst (λ (s : Start). OnlyEnds s end.Done)
           (sym (ap start (sym (append-nil h.head)) ∙ after [] ∙ after_disconnect r [] is)) (inl refl);
       whole = whole_leaves a b h.input;
+      unread = unread-start h.head (leaves []) (ap start (sym (append-nil h.head)) ∙ after [] ∙ after_disconnect r [] is);
     }
 
   module _ (c : Option (List ℕ)) (isnt : (r.kind == 2) ≡ false) where
@@ -64,7 +67,7 @@ module _ (a b : Option (List ℕ)) (r : Request) (h : TakesHead a b r) where
           answered = answered;
         }
 
-        pub failed_reply : (how : End) → IsAnswered sector (record { request = r; payload = p.payload }) es whole → GrowsByFront held now whole
+        pub failed_reply : (how : End) → IsAnswered sector (record { request = r; payload = p.payload }) es whole → GrowsInPart held now whole
             → (how ≡ end.WriteFault) ⊎ (how ≡ end.NoMemory) → Serves sector a c held now es 0 how
         failed_reply how answered front cause =
             serves_stop sector a c held now es how (record { request = r; payload = p.payload }) (h.head ++ p.payload) (take front.0 whole) starts
@@ -74,6 +77,7 @@ module _ (a b : Option (List ℕ)) (r : Request) (h : TakesHead a b r) where
               none = refl;
               rest = drop front.0 whole;
               prefix = sym (take-append-drop front.0 whole);
+              some_left = omega (arith, front.1, length-drop front.0 whole);
               cause = cause;
             })
-            (shrinks_twice a b c h.head p.payload h.input p.input) front.1
+            (shrinks_twice a b c h.head p.payload h.input p.input) front.2

@@ -14,3 +14,7 @@ pub mod CallLeaves
 pub mod Asked
 -- what a request did
 pub mod Acted
+-- the buffer of a read
+pub mod DataInPlace
+-- a session over a pass
+pub mod CallByCall

@@ -1,10 +1,11 @@
 -- What was taken of a source is a head, or shows that none is there.
-use Rattle.std.proofs.Common.{◌≡◌, ◌≤◌, ◌<◌, ℕ, ◌+◌, Bool, true, false, List, ◌++◌, length, length-append, take, drop, Option, Some, None, IfSome, Result, Err, inl, inr, refl, sym, ap, ◌∙◌, subst, arith}
+use Rattle.std.proofs.Common.{◌≡◌, ◌≤◌, ◌<◌, ℕ, zero, suc, ◌+◌, ◌==◌, Bool, true, false, List, ◌++◌, length, length-append, take, drop, Option, Some, None, IfSome, Result, Err, inl, inr, refl, sym, ap, ◌∙◌, subst, arith}
 use Rattle.std.specs.Prelude.{◌↔◌, is_ok, IsNone, IsOk, IsTrue}
 use Rattle.std.proofs.lemmas.List.{append-nil, drop_all, length-drop, length-take-le, take-append-drop, take-append-le, take_all}
-use Rattle.std.proofs.lemmas.Bool.{false≢true}
+use Rattle.std.proofs.lemmas.Bool.{eqb-false, eqb-true, false≢true}
 use borrow.Rule.Slice.PartMut.{put_mid}
-use Rattle.nbd_wire.specs.Frames.{short, Start, start}
+use Rattle.nbd_wire.proofs.AnsweredOnward.{unread-start}
+use Rattle.nbd_wire.specs.Frames.{over, short, wrong, Start, start}
 use Rattle.nbd_wire.specs.Wire.{has_magic}
 use Rattle.nbd_wire.specs.declared.end.End.{End}
 use Rattle.nbd_wire.specs.declared.end.End.TheVariants as end
@@ -13,7 +14,7 @@ use Rattle.nbd_session.specs.declared.input.Stop.{Stop}
 use Rattle.nbd_session.specs.declared.input.Stop.TheVariants.{Ended, Failed}
 use Rattle.nbd_session.specs.Laws.Onward.{NoRequest, OnlyEnds}
 use Rattle.nbd_session.specs.Laws.Taken.{end_of}
-use Rattle.nbd_session.proofs.Starts.{has_magic-append, start_bad, start_short, start_wrong}
+use Rattle.nbd_session.proofs.Starts.{has_magic-append, start_bad, start_cut, start_over, start_short, start_wrong}
 use Rattle.nbd_session.proofs.Streams.{ended_on, shrinks_twice}
 
 -- four bytes are there, and are no magic
@@ -31,13 +32,14 @@ bad_bytes a b taken how input size bad is = record {
   input = input;
   alone = subst (λ (s : Start). OnlyEnds s how) (sym (start_wrong taken size bad)) (inl is);
   whole = whole_bad a b taken how input size bad is;
+  unread = unread-start taken (wrong (take 4 taken)) (start_wrong taken size bad);
 }
 
--- the source stopped inside a head
-whole_short : (a : Option (List ℕ)) (taken : List ℕ) (how : End) → start taken ≡ short → how ≡ end.Cut → IfSome a (λ s. s ≡ taken)
+-- the source gave all that it had
+whole_all : (a : Option (List ℕ)) (taken : List ℕ) (s : Start) (how : End) → start taken ≡ s → OnlyEnds s how → IfSome a (λ s. s ≡ taken)
     → IfSome a (λ bytes. ¬ (how ≡ end.ReadFault) → OnlyEnds (start bytes) how)
-whole_short None taken how is cut all = tt
-whole_short (Some bytes) taken how is cut all = λ known. subst (λ (s : Start). OnlyEnds s how) (sym (ap start all ∙ is)) (inl cut)
+whole_all None taken s how is only all = tt
+whole_all (Some bytes) taken s how is only all = λ known. subst (λ (s : Start). OnlyEnds s how) (sym (ap start all ∙ is)) only
 
 whole_fault : (a : Option (List ℕ)) (how : End) → how ≡ end.ReadFault → IfSome a (λ bytes. ¬ (how ≡ end.ReadFault) → OnlyEnds (start bytes) how)
 whole_fault None how is = tt
@@ -49,14 +51,51 @@ short_bytes a b taken Ended how input is ends all = record {
   taken = taken;
   input = input;
   alone = subst (λ (s : Start). OnlyEnds s how) (sym is) (inl ends);
-  whole = whole_short a taken how is ends (all refl);
+  whole = whole_all a taken short how is (inl ends) (all refl);
+  unread = unread-start taken short is;
 }
 short_bytes a b taken Failed how input is ends all = record {
   taken = taken;
   input = input;
   alone = subst (λ (s : Start). OnlyEnds s how) (sym is) (inr ends);
   whole = whole_fault a how ends;
+  unread = unread-start taken short is;
 }
+
+-- the source stopped between two requests
+over_bytes : (a b : Option (List ℕ)) (taken : List ℕ) (stop : Stop) (how : End) → Shrinks a b taken → start taken ≡ over
+    → how ≡ end_of stop true → (stop ≡ Ended → IfSome a (λ s. s ≡ taken)) → NoRequest a b how
+over_bytes a b taken Ended how input is ends all = record {
+  taken = taken;
+  input = input;
+  alone = subst (λ (s : Start). OnlyEnds s how) (sym is) (inl ends);
+  whole = whole_all a taken over how is (inl ends) (all refl);
+  unread = unread-start taken over is;
+}
+over_bytes a b taken Failed how input is ends all = record {
+  taken = taken;
+  input = input;
+  alone = subst (λ (s : Start). OnlyEnds s how) (sym is) (inr ends);
+  whole = whole_fault a how ends;
+  unread = unread-start taken over is;
+}
+
+-- the source stopped within the first four bytes
+positive : (n : ℕ) → ¬ (n ≡ 0) → 0 < n
+positive zero isnt = absurd (isnt refl)
+positive (suc n) isnt = omega arith
+
+early_by : (a b : Option (List ℕ)) (taken : List ℕ) (stop : Stop) (how : End) (none : Bool) → Shrinks a b taken → (length taken == 0) ≡ none
+    → length taken < 4 → how ≡ end_of stop none → (stop ≡ Ended → IfSome a (λ s. s ≡ taken)) → NoRequest a b how
+early_by a b taken stop how true input is few ends all = over_bytes a b taken stop how input (start_over taken (eqb-true (length taken) 0 is)) ends all
+early_by a b taken stop how false input is few ends all =
+    short_bytes a b taken stop how input (start_cut taken (positive (length taken) (eqb-false (length taken) 0 is)) few) ends all
+
+pub early_bytes : (a b : Option (List ℕ)) (k : ℕ) (buf : List ℕ) (stop : Stop) (how : End) → Shrinks a b (take k buf) → k ≤ length buf
+    → k < 4 → how ≡ end_of stop (k == 0) → (stop ≡ Ended → IfSome a (λ s. s ≡ take k buf)) → NoRequest a b how
+early_bytes a b k buf stop how input within few ends all =
+    early_by a b (take k buf) stop how (k == 0) input (ap (λ (n : ℕ). n == 0) (length-take-le k buf within))
+    (omega (arith, few, length-take-le k buf within)) ends all
 
 -- the first k bytes of a buffer have its magic
 pub magic-take : (k : ℕ) (buf : List ℕ) → k ≤ length buf → 4 ≤ k → has_magic buf ≡ has_magic (take k buf)

@@ -8,7 +8,7 @@ use Rattle.nbd_wire.specs.Frames.{Frame, frames, Start, over, short, wrong, leav
 use Rattle.nbd_wire.specs.Replies.{AreAnswered, Stops}
 use Rattle.nbd_wire.specs.declared.end.End.{End}
 use Rattle.nbd_wire.specs.declared.end.End.TheVariants as end
-use Rattle.nbd_wire.proofs.AnsweredOnward.{answered_end, answered_more, answered_stops}
+use Rattle.nbd_wire.proofs.AnsweredOnward.{answered_end, answered_more, answered_stops, unread-start}
 use Rattle.sector_model.specs.declared.entry.Event.{Event}
 use Rattle.vc_outside.specs.Told.{Grows, Shrinks}
 use Rattle.nbd_session.specs.Session.{Serves}
@@ -23,6 +23,7 @@ onward_none sector left held = record {
   input = shrinks_none left;
   output = grows_none held;
   goes = λ bytes more k replies how answered. subst (λ (m : ℕ). AreAnswered sector (frames bytes) more m replies how) (omega arith) answered;
+  unread = λ bytes. refl;
 }
 
 module _ (sector : ℕ) (a b c h i j : Option (List ℕ)) (es own : List Event) (n : ℕ) (so_far : Onward sector a b h i es n) where
@@ -45,6 +46,8 @@ module _ (sector : ℕ) (a b c h i j : Option (List ℕ)) (es own : List Event) 
         (so_far.goes (one.taken ++ bytes) (own ++ more) (suc k) (one.written ++ replies) how
         (answered_more sector (one.taken ++ bytes) one.frame.request one.frame.payload bytes own more k one.written replies how
         (one.starts bytes) one.answered answered)))));
+    unread = λ bytes. ap (λ (p : List ℕ). (frames p).unread) (append_assoc so_far.taken one.taken bytes) ∙ so_far.unread (one.taken ++ bytes)
+        ∙ unread-start (one.taken ++ bytes) (asks one.frame.request one.frame.payload bytes) (one.starts bytes);
   }
 
   -- the end
@@ -70,15 +73,16 @@ module _ (sector : ℕ) (a b c h i j : Option (List ℕ)) (es own : List Event) 
           input = shrinks_twice a b c so_far.taken last.taken so_far.input last.input;
           output = grows_twice h i j so_far.written last.written so_far.output last.output;
           answered = goes last.taken last.answered;
+          unread = so_far.unread last.taken ∙ last.unread;
           whole = whole_end last.written a b so_far.taken so_far.input goes last.whole;
         }
 
 -- bytes without a request
 pub only_ends : (sector : ℕ) (bytes : List ℕ) (s : Start) (how : End) → start bytes ≡ s → OnlyEnds s how → AreAnswered sector (frames bytes) [] 0 [] how
-only_ends sector bytes over how is only = answered_end sector bytes over end.Done how is refl only
-only_ends sector bytes short how is only = answered_end sector bytes short end.Cut how is refl only
-only_ends sector bytes (wrong magic) how is only = answered_end sector bytes (wrong magic) (end.BadMagic magic) how is refl only
-only_ends sector bytes leaves how is only = answered_end sector bytes leaves end.Done how is refl only
+only_ends sector bytes over how is only = answered_end sector bytes over end.Done how is refl refl only
+only_ends sector bytes short how is only = answered_end sector bytes short end.Cut how is refl refl only
+only_ends sector bytes (wrong magic) how is only = answered_end sector bytes (wrong magic) (end.BadMagic magic) how is refl refl only
+only_ends sector bytes (leaves rest) how is only = answered_end sector bytes (leaves rest) end.Done how is refl refl only
 only_ends sector bytes (asks r payload rest) how is only = absurd only
 
 whole_none : (sector : ℕ) (left : Option (List ℕ)) (how : End) → IfSome left (λ bytes. ¬ (how ≡ end.ReadFault) → OnlyEnds (start bytes) how)
@@ -93,6 +97,7 @@ serves_none sector left later held how none = record {
   input = none.input;
   output = grows_none held;
   answered = only_ends sector none.taken (start none.taken) how refl none.alone;
+  unread = none.unread;
   whole = whole_none sector left how none.whole;
 }
 
@@ -113,5 +118,6 @@ module _ (sector : ℕ) (left later held now : Option (List ℕ)) (es : List Eve
     output = output;
     answered = answered_stops sector taken es 0 written how f.request f.payload []
         (ap start (sym (append-nil taken)) ∙ starts []) stops;
+    unread = ap (λ (p : List ℕ). (frames p).unread) (sym (append-nil taken)) ∙ unread-start (taken ++ []) (asks f.request f.payload []) (starts []);
     whole = whole_stop left later input;
   }

@@ -94,12 +94,12 @@ start_bad head rest size bad =
 
 -- what follows a head
 module _ (r : Request) where
-  pub after_disconnect : (rest : List ℕ) → (r.kind == 2) ≡ true → after_head r rest ≡ leaves
-  after_disconnect rest is = if_true (r.kind == 2) leaves _ is
+  pub after_disconnect : (rest : List ℕ) → (r.kind == 2) ≡ true → after_head r rest ≡ leaves rest
+  after_disconnect rest is = if_true (r.kind == 2) (leaves rest) _ is
 
   pub after_whole : (payload rest : List ℕ) → (r.kind == 2) ≡ false → length payload ≡ payload_length r → after_head r (payload ++ rest) ≡ asks r payload rest
   after_whole payload rest isnt size =
-      if_false (r.kind == 2) leaves _ isnt
+      if_false (r.kind == 2) (leaves (payload ++ rest)) _ isnt
       ∙ if_false (nat_lt (length (payload ++ rest)) (payload_length r)) short _
       (le-ltb (length (payload ++ rest)) (payload_length r) (omega (arith, size, length-append payload rest)))
       ∙ ap (λ (p : List ℕ). asks r p (drop (payload_length r) (payload ++ rest))) (take_at payload rest (payload_length r) size)
@@ -107,5 +107,5 @@ module _ (r : Request) where
 
   pub after_part : (part : List ℕ) → (r.kind == 2) ≡ false → length part < payload_length r → after_head r part ≡ short
   after_part part isnt few =
-      if_false (r.kind == 2) leaves _ isnt
+      if_false (r.kind == 2) (leaves part) _ isnt
       ∙ if_true (nat_lt (length part) (payload_length r)) short _ (lt-ltb (length part) (payload_length r) few)

@@ -5,7 +5,7 @@
 -- Serves ..              the first n requests of the bytes taken left these events and were answered by the bytes
 --                        written; after them the session ended so. If the source's bytes are known, these are also the
 --                        first n requests of all of them, unless the source failed.
-use Rattle.std.specs.Prelude.{◌≡◌, ℕ, List, Option, IfSome, map}
+use Rattle.std.specs.Prelude.{◌≡◌, ℕ, List, [], Option, IfSome, map}
 use Rattle.nbd_wire.specs.Frames.{frames}
 use Rattle.nbd_wire.specs.Replies.{AreAnswered}
 use Rattle.nbd_wire.specs.declared.end.End.{End}
@@ -23,4 +23,6 @@ pub record Serves (sector : ℕ) (left later held now : Option (List ℕ)) (es :
   pub input : Shrinks left later taken
   pub output : Grows held now written
   pub answered : AreAnswered sector (frames taken) es n written how
+  -- nothing after a disconnect was taken
+  pub unread : (frames taken).unread ≡ []
   pub whole : IfSome left (λ bytes. ¬ (how ≡ ReadFault) → AreAnswered sector (frames bytes) es n written how)

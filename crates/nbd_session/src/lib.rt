@@ -1,12 +1,23 @@
-//! A session with one client: its parts.
+//! A session with one client of a volume.
 //!
-//! A session takes requests of a source one by one, in bounded memory whatever the client sends, and
-//! gives each reply to a sink. In between it reads, writes or flushes a volume. Sources give bytes in
-//! pieces of any length and sinks take them so. In proofs each call says which bytes it took and gave,
-//! and what it added to the volume's history. A source or sink whose bytes are unknown gets the same
-//! promises, of some bytes.
+//! `session` takes the requests of a source one by one, has the volume carry each out, and gives the reply
+//! to a sink before it takes the next one. It holds the memory of one request at most, whatever the client
+//! sends. Sources give bytes in pieces of any length and sinks take them so.
+//!
+//! ```text
+//!   next_request    28 bytes, or how the session ends
+//!   take_rest       the payload of a write, straight into the buffer that the volume gets; without memory for
+//!                   it, and of a malformed write, the bytes are skipped
+//!   answer          the volume's call, then the reply, with the data of a read in one piece
+//! ```
+//!
+//! In proofs each call says which bytes it took and gave, and which entries it added to the volume's history
+//! under the number of its pass. `specs/Session.antt` has the promise of a whole session. A source or sink
+//! whose bytes are unknown gets the same promises, of some bytes. `docs/PROTOCOL.md` has the protocol.
 #![tactic(auto)]
 
+mod answer;
+mod client;
 mod head;
 mod input;
 mod output;
@@ -15,3 +26,5 @@ mod reply;
 mod sectors;
 #[cfg(test)]
 mod tests;
+
+pub use client::session;

@@ -1,14 +1,15 @@
 //! Bytes for a sink, written whole.
-ghost use Rattle.std.specs.Prelude.{◌≡◌, IsErrOf, OnOk};
+ghost use Rattle.std.specs.Prelude.{◌≡◌, IsErrOf, OnErr, OnOk};
+ghost use Rattle.nbd_session.specs.Laws.Sent.{GrowsInPart};
 ghost use Rattle.vc_base.specs.Faults.{HasCause};
-ghost use Rattle.vc_outside.specs.Told.{Grows, GrowsByFront};
+ghost use Rattle.vc_outside.specs.Told.{Grows};
 
 use vc_outside::{OutError, Sink};
 
-// Writes all bytes, in one call if the sink takes them whole. If it fails, a prefix of them was written.
+// Writes all bytes, in one call if the sink takes them whole. If it fails, only a part of them was written.
 pub(crate) fn send<O: Sink>(sink: &mut O, bytes: &[u8]) -> Result<(), OutError>
     ensures done { OnOk result (Grows (O.contents sink.old) (O.contents sink.new) bytes.now) }
-    ensures front { GrowsByFront (O.contents sink.old) (O.contents sink.new) bytes.now }
+    ensures part { OnErr result (GrowsInPart (O.contents sink.old) (O.contents sink.new) bytes.now) }
     ensures cause { HasCause (O.faults sink.old) (O.faults sink.new) (IsErrOf result OutError.Failed) }
 {
     let mut at = 0;

@@ -1,5 +1,5 @@
 //! Replies, written whole.
-ghost use Rattle.std.specs.Prelude.{◌≡◌, Some};
+ghost use Rattle.std.specs.Prelude.{◌≡◌, ◌≤◌, ◌++◌, drop, length, Some};
 ghost use Rattle.nbd_session.specs.Laws.Sent.{Replied};
 ghost use Rattle.nbd_wire.specs.Replies.{error_of};
 ghost use Rattle.nbd_wire.specs.Wire.{reply};
@@ -29,4 +29,16 @@ pub(crate) fn reply_alone<O: Sink>(sink: &mut O, request: &Request, outcome: Out
     let mut head = [0u8; REPLY];
     write_reply(outcome.error(), request.cookie, &mut head);
     send_whole(sink, &head)
+}
+
+// Replies to a read that was done. The data are in the buffer already, and the reply goes in before them.
+pub(crate) fn reply_data<O: Sink>(sink: &mut O, request: &Request, buf: &mut [u8]) -> Option<End>
+    requires room { 16 ≤ length buf.old }
+    ensures replied { Replied (O.contents sink.old) (O.contents sink.new) (reply 0 request.now.cookie ++ drop 16 buf.old) result }
+    ensures cause { HasCause (O.faults sink.old) (O.faults sink.new) (result ≡ Some End.WriteFault) }
+{
+    let mut head = [0u8; REPLY];
+    write_reply(0, request.cookie, &mut head);
+    buf[..REPLY].copy_from_slice(&head);
+    send_whole(sink, buf)
 }

@@ -6,8 +6,8 @@ use Rattle.std.proofs.Common.{◌≡◌, ◌⊎◌, ℕ, suc, List, [], ◌++◌
 use Rattle.nbd_wire.specs.declared.end.End.{End}
 use Rattle.nbd_wire.specs.declared.end.End.TheVariants as end
 use Rattle.nbd_wire.specs.declared.request.Request.{Request}
-use Rattle.nbd_wire.specs.Frames.{ends, followed, Frames, frames, Start, asks, start}
-use Rattle.nbd_wire.specs.Replies.{IsAnswered, AreAnswered, Stops}
+use Rattle.nbd_wire.specs.Frames.{followed, Frame, Frames, frames, Start, asks, start}
+use Rattle.nbd_wire.specs.Replies.{AnsweredOf, IsAnswered, IsOver, AreAnswered, Stops}
 use Rattle.nbd_wire.proofs.FirstAndRest.{frames-start}
 use Rattle.sector_model.specs.declared.entry.Event.{Event}
 
@@ -40,9 +40,15 @@ answered_more sector bytes r payload rest own es n answer ws how is answered ans
 
 -- no request is there
 pub answered_end : (sector : ℕ) (bytes : List ℕ) (s : Start) (last how : End)
-    → start bytes ≡ s → followed s frames ≡ ends last → (how ≡ last) ⊎ (how ≡ end.ReadFault)
-    → AreAnswered sector (frames bytes) [] 0 [] how
-answered_end sector bytes s last how is none cause =
-    subst (λ (fs : Frames). AreAnswered sector fs [] 0 [] how)
-    (sym (frames-start bytes ∙ ap (λ (s : Start). followed s frames) is ∙ none))
-    (record { events = refl; none = refl; nothing = refl; cause = cause })
+    → start bytes ≡ s → (followed s frames).requests ≡ [] → (followed s frames).last ≡ last
+    → (how ≡ last) ⊎ (how ≡ end.ReadFault) → AreAnswered sector (frames bytes) [] 0 [] how
+answered_end sector bytes s last how is none ends cause =
+    let same : frames bytes ≡ followed s frames = frames-start bytes ∙ ap (λ (s : Start). followed s frames) is in
+    subst (λ (fs : List Frame). AnsweredOf sector fs (frames bytes).last [] 0 [] how)
+    (sym (ap (λ (fs : Frames). fs.requests) same ∙ none))
+    (subst (λ (e : End). IsOver e [] 0 [] how) (sym (ap (λ (fs : Frames). fs.last) same ∙ ends))
+    (record { events = refl; none = refl; nothing = refl; cause = cause }))
+
+-- what nobody is to read of bytes that start so
+pub unread-start : (bytes : List ℕ) (s : Start) → start bytes ≡ s → (frames bytes).unread ≡ (followed s frames).unread
+unread-start bytes s is = ap (λ (fs : Frames). fs.unread) (frames-start bytes ∙ ap (λ (s : Start). followed s frames) is)

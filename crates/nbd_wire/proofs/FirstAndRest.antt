@@ -15,7 +15,7 @@ LeavesFewer n (asks r payload rest) = length rest < n
 LeavesFewer n over = ⊤
 LeavesFewer n short = ⊤
 LeavesFewer n (wrong magic) = ⊤
-LeavesFewer n leaves = ⊤
+LeavesFewer n (leaves rest) = ⊤
 
 -- what holds of both holds of the one that a test picks
 pub of_both : {X : Type 0} (P : X → Type 0) (b : Bool) (x y : X) → P x → P y → P (if b then x else y)
@@ -27,7 +27,7 @@ fewer_after_head n r rest below =
     let k : ℕ = payload_length r in
     let whole : Start = asks r (take k rest) (drop k rest) in
     let paid : Start = (if nat_lt (length rest) k then short else whole) in
-    of_both (LeavesFewer n) (r.kind == 2) leaves paid tt
+    of_both (LeavesFewer n) (r.kind == 2) (leaves rest) paid tt
     (of_both (LeavesFewer n) (nat_lt (length rest) k) short whole tt
     (omega (arith, below, length-drop k rest)))
 
@@ -55,7 +55,7 @@ same_onward : (s : Start) (f g : List ℕ → Frames) (n : ℕ) → LeavesFewer 
 same_onward over f g n fewer same = refl
 same_onward short f g n fewer same = refl
 same_onward (wrong magic) f g n fewer same = refl
-same_onward leaves f g n fewer same = refl
+same_onward (leaves rest) f g n fewer same = refl
 same_onward (asks r payload rest) f g n fewer same =
     ap (λ (more : Frames). followed (asks r payload rest) (λ _. more)) (same rest fewer)
 

@@ -4,7 +4,7 @@
 -- Frame                a request and its payload
 -- payload_length r     how many bytes follow the head
 -- Start, start bytes   how bytes start
--- frames bytes         their requests and their end
+-- frames bytes         their requests, their end, and what nobody is to read of them
 use Rattle.std.specs.Prelude.{ℕ, zero, suc, ◌==◌, nat_lt, List, [], ◌∷◌, length, take, drop, if◌then◌else◌}
 use Rattle.nbd_wire.specs.declared.end.End.{End}
 use Rattle.nbd_wire.specs.declared.end.End.TheVariants.{Done, Cut, BadMagic}
@@ -18,6 +18,8 @@ pub record Frame : Type 0 where
 pub record Frames : Type 0 where
   pub requests : List Frame
   pub last : End
+  -- the bytes after a disconnect
+  pub unread : List ℕ
 
 abbrev pub payload_length : Request → ℕ
 payload_length r = if r.kind == 1 then r.length else 0
@@ -29,14 +31,14 @@ pub data Start : Type 0 where
   short : Start
   -- these four bytes are no magic
   wrong : List ℕ → Start
-  -- a disconnect
-  leaves : Start
+  -- a disconnect, and the bytes after it
+  leaves : List ℕ → Start
   -- a request, its payload and the bytes after it
   asks : Request → List ℕ → List ℕ → Start
 
 abbrev pub after_head : Request → List ℕ → Start
 after_head r rest =
-    if r.kind == 2 then leaves else
+    if r.kind == 2 then leaves rest else
     (if nat_lt (length rest) (payload_length r) then short
     else asks r (take (payload_length r) rest) (drop (payload_length r) rest))
 
@@ -50,17 +52,18 @@ start bytes =
     else wrong (take 4 bytes)))
 
 abbrev pub ends : End → Frames
-ends how = record { requests = []; last = how }
+ends how = record { requests = []; last = how; unread = [] }
 
--- Nothing after a disconnect counts.
+-- Nothing after a disconnect is a request.
 abbrev pub followed : Start → (List ℕ → Frames) → Frames
 followed over more = ends Done
 followed short more = ends Cut
 followed (wrong magic) more = ends (BadMagic magic)
-followed leaves more = ends Done
+followed (leaves rest) more = record { requests = []; last = Done; unread = rest }
 followed (asks r payload rest) more = record {
   requests = (record { request = r; payload = payload }) ∷ (more rest).requests;
   last = (more rest).last;
+  unread = (more rest).unread;
 }
 
 -- the first n requests

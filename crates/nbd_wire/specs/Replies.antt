@@ -7,7 +7,7 @@
 --                              of the requests fs the first n left the events es, in order, and their replies are
 --                              `bytes`; after them it ended so. If a reply failed, its request's events may be the last
 --                              of es, and a prefix of that reply the last of `bytes`.
-use Rattle.std.specs.Prelude.{◌≡◌, ◌⊎◌, ℕ, suc, ◌*◌, Bool, true, false, List, [], ◌∷◌, ◌++◌, length}
+use Rattle.std.specs.Prelude.{◌≡◌, ◌<◌, ◌⊎◌, ℕ, suc, ◌*◌, Bool, true, false, List, [], ◌∷◌, ◌++◌, length}
 use Rattle.nbd_wire.specs.Classes.{asked}
 use Rattle.nbd_wire.specs.Frames.{Frame, Frames}
 use Rattle.nbd_wire.specs.Wire.{reply}
@@ -101,13 +101,14 @@ pub record GoesOn (sector : ℕ) (f : Frame) (Rest : List Event → ℕ → List
   pub counted : n ≡ suc count
   pub written : bytes ≡ own_reply ++ replies
 
--- The reply to the first request failed.
+-- The reply to the first request failed before it was written whole.
 pub record Stops (sector : ℕ) (f : Frame) (es : List Event) (n : ℕ) (bytes : List ℕ) (how : End) : Type 0 where
   pub whole : List ℕ
   pub answered : IsAnswered sector f es whole
   pub none : n ≡ 0
   pub rest : List ℕ
   pub prefix : whole ≡ bytes ++ rest
+  pub some_left : 0 < length rest
   pub cause : (how ≡ end.WriteFault) ⊎ (how ≡ end.NoMemory)
 
 -- All requests were answered. A source that fails tells no more bytes.
