@@ -24,3 +24,5 @@ mod end;
 pub mod expand_error;
 mod fill;
 pub mod growth;
+#[cfg(test)]
+mod tests;
