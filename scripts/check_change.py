@@ -8,6 +8,7 @@ import random
 import subprocess
 import time
 
+from check_format import file_size_limit, small_disk
 from check_hidden import HIDDEN_KEY, HIDDEN_PASSWORD, OUTER_KEY, write
 from independent_container import (ALGORITHMS, GROUP, PRFS, SECTOR, changed, formatted, header_fields, hidden,
                                    is_available)
@@ -89,6 +90,84 @@ def refused(rows, folder):
     os.remove(path)
 
 
+def over_damage(rows, folder):
+    """`restore` over whatever the primary slot holds; that slot alone changes."""
+    path = os.path.join(folder, "damaged.vc")
+    image = container(4096)
+    other = formatted(2 * GROUP + 16 * 4096, "another horse", 1, NEW_KEY)[:SECTOR]
+    for place, password, more in [(0, PASSWORD, ()), (GROUP // 2, HIDDEN_PASSWORD, ("--kind", "hidden"))]:
+        for told, head in [("zeros", b"\0" * SECTOR), ("ones", b"\xff" * SECTOR), ("another container's", other)]:
+            now = image[:place] + head + image[place + SECTOR:]
+            write(path, now)
+            left = changed(now, place, password, 1, NEW_KEY, new_password=password, new_pim=1, new_prf="sha512",
+                           restores=True)
+            rows.row(f"restore: {told} in the primary slot {more}", restore_words(path, password, NEW_KEY, *more), 0,
+                     b"ok\n", left=left)
+    os.remove(path)
+
+
+def same_password(rows, folder):
+    """The old password may be the new one: the headers get new salts."""
+    path = os.path.join(folder, "same.vc")
+    image = container()
+    write(path, image)
+    left = changed(image, 0, PASSWORD, 1, NEW_KEY, new_password=PASSWORD, new_pim=1, new_prf="sha512")
+    rows.row("passwd: the old password again",
+             passwd_words(path, PASSWORD, PASSWORD, NEW_KEY, "--new-pim", "1"), 0, b"ok\n", left=left)
+    salts = [slice(at, at + 64) for at in (0, len(image) - GROUP)]
+    rows.note("passwd: the old password again, the salts",
+              ["one stays"] if any(left[salt] == image[salt] for salt in salts) else [])
+    os.remove(path)
+
+
+def places(rows, folder):
+    """Headers are written in place, so neither a full disk nor a folder that can't be written is in the way. A file
+    that can't be written is: then the status is 7, and the old password opens the backup header at least."""
+    image = container()
+    new = changed(image, 0, PASSWORD, 1, NEW_KEY, new_password=NEW_PASSWORD, new_pim=1, new_prf="sha512")
+    path = os.path.join(folder, "limited.vc")
+    for limit, left in [(0, image), (GROUP, new[:GROUP] + image[GROUP:])]:
+        write(path, image)
+        rows.row(f"passwd: a file that can be written up to byte {limit} alone", to_new(path), 7, left=left,
+                 preexec_fn=file_size_limit(limit))
+    os.remove(path)
+    with small_disk(rows, folder, 1 << 20) as disk:
+        if disk is None:
+            return
+        os.chmod(disk, 0o755)
+        inner = os.path.join(disk, "inner")
+        os.mkdir(inner)
+        path = os.path.join(inner, "kept.vc")
+        write(path, image)
+        fill(os.path.join(disk, "filler"))
+        rows.row("passwd: a full disk", to_new(path), 0, b"ok\n", left=new)
+        os.remove(os.path.join(disk, "filler"))
+        write(path, image)
+        os.chmod(path, 0o666)
+        os.chmod(inner, 0o555)
+        rows.row("passwd: a read-only folder", to_new(path), 0, b"ok\n", left=new)
+        write(path, image)
+        if subprocess.run(["mount", "-o", "remount,ro", disk], capture_output=True).returncode != 0:
+            rows.leave_out("passwd: a read-only disk", "none can be mounted")
+            return
+        rows.row("passwd: a read-only disk", to_new(path), 7, left=image)
+        rows.row("restore: a read-only disk", restore_words(path, PASSWORD, NEW_KEY), 7, left=image)
+
+
+def to_new(path):
+    return passwd_words(path, PASSWORD, NEW_PASSWORD, NEW_KEY, "--new-pim", "1")
+
+
+def fill(path):
+    """Takes all the room of a disk."""
+    with open(path, "wb", buffering=0) as file:
+        try:
+            while file.write(bytes(4096)):
+                pass
+        except OSError:
+            pass
+
+
 def killed(rows, folder, times=200):
     """The program is killed at random moments of `passwd`: a password opens a header, always."""
     path = os.path.join(folder, "killed.vc")
@@ -126,5 +205,8 @@ def read_only(rows, folder):
 def check(rows, folder):
     every_volume(rows, folder)
     refused(rows, folder)
+    over_damage(rows, folder)
+    same_password(rows, folder)
     read_only(rows, folder)
+    places(rows, folder)
     killed(rows, folder)
