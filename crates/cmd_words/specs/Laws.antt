@@ -14,7 +14,7 @@ use Rattle.clap.specs.Matches.{found_of}
 use Rattle.clap.specs.Simple.{App, new_app, new_rule, on_top}
 use Rattle.clap.specs.declared.builder.action.ArgAction.TheVariants.{Set}
 use Rattle.clap.specs.declared.parser.matches.ArgMatches.{ArgMatches}
-use Rattle.cmd_words.specs.Line.{Form, Line, Row, Text, Use, begins_with_hyphen, begins_with_hyphens, cat_of, commands, drill_of, format, hide, info_of, is_distinct, is_in, made_of, passwd_of, restore_of, serve_of}
+use Rattle.cmd_words.specs.Line.{Form, Line, Row, Text, Use, begins_with_hyphen, begins_with_hyphens, cat_of, commands, drill_of, expand_of, format, hide, info_of, is_distinct, is_in, made_of, passwd_of, restore_of, serve_of}
 use Rattle.cmd_words.specs.declared.form.Name.{Name}
 use Rattle.cmd_words.specs.declared.form.Name.TheVariants as name
 use Rattle.cmd_words.specs.declared.form.Form.{Form as CodeForm}
@@ -26,8 +26,9 @@ place_in_table name.Info = 2
 place_in_table name.Cat = 3
 place_in_table name.Passwd = 4
 place_in_table name.Restore = 5
-place_in_table name.Serve = 6
-place_in_table name.Drill = 7
+place_in_table name.Expand = 6
+place_in_table name.Serve = 7
+place_in_table name.Drill = 8
 
 abbrev pub no_row : Row
 no_row = record {
@@ -47,6 +48,7 @@ made_by name.Info us = info_of us
 made_by name.Cat us = cat_of us
 made_by name.Passwd us = passwd_of us
 made_by name.Restore us = restore_of us
+made_by name.Expand us = expand_of us
 made_by name.Serve us = serve_of us
 made_by name.Drill us = drill_of us
 

@@ -237,6 +237,10 @@ tried us = option_map (λ c. kind_of c (is_backup us)) (choice_of us)
 abbrev pub tried_backup : List Use → Option Kind
 tried_backup us = option_map (λ c. kind_of c true) (choice_of us)
 
+-- a flag that has to be given
+abbrev pub no_hidden_of : List Use → Option Bool
+no_hidden_of us = if is_some (value_of (codes "no-hidden") us) then Some true else None
+
 -- the protecting password with its PIM, which needs the password
 abbrev pub protected : Option Text → Option ℕ → Option (Option (Text × ℕ))
 protected None None = Some None
@@ -276,6 +280,8 @@ pub data Line : Type 0 where
   passwd : Text → Text → Text → List ℕ → ℕ → ℕ → Option Prf → Kind → Line
   -- path, password, random key, PIM, kind
   restore : Text → Text → List ℕ → ℕ → Kind → Line
+  -- path, size, password, random key, PIM, whether there is no hidden volume
+  expand : Text → ℕ → Text → List ℕ → ℕ → Bool → Line
   -- path, password, PIM, kind, protecting password and its PIM, helpers, workers
   serve : Text → Text → ℕ → Kind → Option (Text × ℕ) → ℕ → ℕ → Line
   drill : ℕ → Line
@@ -313,6 +319,12 @@ abbrev pub restore_of : List Use → Option Line
 restore_of us =
     Some (λ path password random pim kind. restore path password random pim kind) ⊗ path_in us
     ⊗ password_of (codes "password") us ⊗ random_of us ⊗ pim_of (codes "pim") us ⊗ tried_backup us
+
+abbrev pub expand_of : List Use → Option Line
+expand_of us =
+    Some (λ path size password random pim no_hidden. expand path size password random pim no_hidden) ⊗ path_in us
+    ⊗ number_of (codes "size") us ⊗ password_of (codes "password") us ⊗ random_of us ⊗ pim_of (codes "pim") us
+    ⊗ no_hidden_of us
 
 abbrev pub serve_of : List Use → Option Line
 serve_of us =
@@ -355,6 +367,7 @@ commands =
     ∷ row (codes "cat") (codes "PATH FIRST COUNT") (codes "password pim kind") (codes "backup") cat_of
     ∷ row (codes "passwd") (codes "PATH") (codes "password new random pim new-pim new-prf kind") (codes "backup") passwd_of
     ∷ row (codes "restore") (codes "PATH") (codes "password random pim kind") [] restore_of
+    ∷ row (codes "expand") (codes "PATH") (codes "size password random pim") (codes "no-hidden") expand_of
     ∷ row (codes "serve") (codes "PATH") (codes "password pim kind protect protect-pim helpers workers") (codes "backup") serve_of
     ∷ row (codes "drill") (codes "N") [] [] drill_of
     ∷ []

@@ -2,7 +2,7 @@
 use Rattle.std.specs.Prelude.{ℕ, ◌≤◌, ◌<◌, ◌^◌, Option, IfSome}
 use Rattle.kdf_hmac.specs.Pbkdf2.{IsPim}
 use Rattle.vc_layout.specs.Layout.{IsSectorSize}
-use Rattle.cmd_words.specs.Line.{Line, Text, format, hide, info, cat, passwd, restore, serve, drill}
+use Rattle.cmd_words.specs.Line.{Line, Text, format, hide, info, cat, passwd, restore, expand, serve, drill}
 
 pub record IsMakingInRange (pim sector : ℕ) : Type 0 where
   pub pim_in : IsPim pim
@@ -26,5 +26,6 @@ IsInRange (info path password pim kind) = IsPim pim
 IsInRange (cat path first count password pim kind) = IsPim pim
 IsInRange (passwd path password new_password random pim new_pim new_prf kind) = IsPasswdInRange pim new_pim
 IsInRange (restore path password random pim kind) = IsPim pim
+IsInRange (expand path size password random pim no_hidden) = IsPim pim
 IsInRange (serve path password pim kind protect helpers workers) = IsServeInRange pim protect helpers workers
 IsInRange (drill n) = n < 2 ^ 32

@@ -64,6 +64,15 @@ pub enum Command {
         pim: u32,
         kind: Kind,
     },
+    Expand {
+        path: String,
+        size: u64,
+        password: Password,
+        random: [u8; 32],
+        pim: u32,
+        /// The user says that the container has no hidden volume. Always true: without it there is no command.
+        no_hidden: bool,
+    },
     Serve {
         path: String,
         password: Password,
@@ -91,6 +100,7 @@ impl Command {
             | Command::Cat { path, .. }
             | Command::Passwd { path, .. }
             | Command::Restore { path, .. }
+            | Command::Expand { path, .. }
             | Command::Serve { path, .. } => Some(path.as_str()),
             Command::Drill { .. } => None,
         }

@@ -12,6 +12,7 @@ pub(crate) enum Name {
     Cat,
     Passwd,
     Restore,
+    Expand,
     Serve,
     Drill,
 }
@@ -35,6 +36,7 @@ pub(crate) fn command_named(name: &str) -> Option<Name>
         "cat" => Name::Cat,
         "passwd" => Name::Passwd,
         "restore" => Name::Restore,
+        "expand" => Name::Expand,
         "serve" => Name::Serve,
         "drill" => Name::Drill,
         _ => return None,
@@ -83,6 +85,11 @@ pub(crate) fn form_of(name: Name) -> Form
             positions: &["PATH"],
             options: &["password", "random", "pim", "kind"],
             flags: &[],
+        },
+        Name::Expand => Form {
+            positions: &["PATH"],
+            options: &["size", "password", "random", "pim"],
+            flags: &["no-hidden"],
         },
         Name::Serve => Form {
             positions: &["PATH"],

@@ -1,7 +1,7 @@
 //! The commands, made of what is given.
 ghost use Rattle.std.specs.Prelude.{◌≡◌, IfSome, Some, option_map, string_bytes};
 ghost use Rattle.kdf_hmac.specs.Pbkdf2.{IsPim};
-ghost use Rattle.cmd_words.specs.Line.{cat_of, drill_of, format, hide, info_of, made_of, passwd_of};
+ghost use Rattle.cmd_words.specs.Line.{cat_of, drill_of, expand_of, format, hide, info_of, made_of, passwd_of};
 ghost use Rattle.cmd_words.specs.Line.{path_in, protect_of, protected, restore_of, serve_of};
 ghost use Rattle.cmd_words.specs.Line.{served, tried, tried_backup, tried_by_serve};
 ghost use Rattle.cmd_words.specs.Meaning.{meaning};
@@ -11,9 +11,9 @@ ghost use Rattle.cmd_words.specs.Laws.{uses_found};
 use crate::choice::{Choice, kind_of};
 use crate::command::Command;
 use crate::given::{
-    algorithm_of, choice_of, drill_number_of, helpers_of, is_backup, new_prf_of, number_of,
-    password_of, pim_of, prf_of, protect_password_of, protect_pim_of, random_of, sector_of,
-    workers_of,
+    algorithm_of, choice_of, drill_number_of, helpers_of, is_backup, new_prf_of, no_hidden_of,
+    number_of, password_of, pim_of, prf_of, protect_password_of, protect_pim_of, random_of,
+    sector_of, workers_of,
 };
 use clap::ArgMatches;
 use kdf_hmac::Password;
@@ -216,6 +216,28 @@ pub(crate) fn make_restore(matches: &ArgMatches<'_>, path: Option<String>) -> Op
         random,
         pim,
         kind,
+    })
+}
+
+/// `expand`.
+pub(crate) fn make_expand(matches: &ArgMatches<'_>, path: Option<String>) -> Option<Command>
+    requires { option_map string_bytes path ≡ path_in (uses_found matches.now) }
+    ensures command { option_map meaning result ≡ expand_of (uses_found matches.now) }
+    ensures in_range { IfSome result (λ c. IsInRange (meaning c)) }
+{
+    let path = path?;
+    let size = number_of(matches, "size")?;
+    let password = password_of(matches, "password")?;
+    let random = random_of(matches)?;
+    let pim = pim_of(matches, "pim")?;
+    let no_hidden = no_hidden_of(matches)?;
+    Some(Command::Expand {
+        path,
+        size,
+        password,
+        random,
+        pim,
+        no_hidden,
     })
 }
 

@@ -34,7 +34,7 @@ pub enum Reason<'a> {
     FlagValue(&'static str),
     /// The position is missing.
     NoPosition(&'static str),
-    /// The option is missing.
+    /// The option or flag is missing.
     NoSuchOption(&'static str),
     /// The value is none that the option or the position may have.
     Value(&'static str, Fault),
@@ -261,7 +261,7 @@ fn value_in<'a>(uses: &[Use<'a>], name: &str) -> Option<&'a str> {
     None
 }
 
-// The first position or option that has no default and isn't given.
+// The first position, option or flag that has no default and isn't given.
 fn missing_in<'a>(form: Form, uses: &[Use<'a>]) -> Option<Reason<'a>> {
     for name in form.positions {
         if value_in(uses, name).is_none() {
@@ -271,6 +271,11 @@ fn missing_in<'a>(form: Form, uses: &[Use<'a>]) -> Option<Reason<'a>> {
     for name in form.options {
         let is_needed = matches!(*name, "size" | "password" | "new" | "random");
         if is_needed && value_in(uses, name).is_none() {
+            return Some(Reason::NoSuchOption(name));
+        }
+    }
+    for name in form.flags {
+        if *name == "no-hidden" && value_in(uses, name).is_none() {
             return Some(Reason::NoSuchOption(name));
         }
     }

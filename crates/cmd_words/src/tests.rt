@@ -160,6 +160,20 @@ fn shown_command(alloc: Global, command: &Command) -> Result<String, AllocError>
                 text_of(password)
             )
         }
+        Command::Expand {
+            path,
+            size,
+            password,
+            random,
+            pim,
+            no_hidden,
+        } => {
+            let digits = digits_of(alloc, random)?;
+            format!(in alloc;
+                "expand|{path}|{size}|{}|{digits}|{pim}|{no_hidden}",
+                text_of(password)
+            )
+        }
         Command::Serve {
             path,
             password,
@@ -222,6 +236,11 @@ fn passwd_takes_two_passwords(rt: HostRuntime) -> Result<(), Fail> {
 }
 
 #[test]
+fn expand_needs_its_flag(rt: HostRuntime) -> Result<(), Fail> {
+    check_lines(&rt, rt.alloc(), &lines::EXPAND)
+}
+
+#[test]
 fn restore_reads_a_backup(rt: HostRuntime) -> Result<(), Fail> {
     check_lines(&rt, rt.alloc(), &lines::RESTORE)
 }
@@ -280,6 +299,7 @@ fn every_refused_line_has_a_reason(rt: HostRuntime) -> Result<(), Fail> {
     check_reasons(&rt, alloc, &lines::SECTOR)?;
     check_reasons(&rt, alloc, &lines::PASSWD)?;
     check_reasons(&rt, alloc, &lines::RESTORE)?;
+    check_reasons(&rt, alloc, &lines::EXPAND)?;
     check_reasons(&rt, alloc, &lines::SERVE)?;
     check_reasons(&rt, alloc, &lines::DRILL)?;
     assert_eq!(rt; reason_of(alloc, &[])?, Some(Reason::Nothing));
@@ -349,6 +369,10 @@ fn the_first_reason_is_the_leftmost(rt: HostRuntime) -> Result<(), Fail> {
         (
             "info|C1|--password=x|--kind=all",
             Reason::Value("kind", Fault::Kind),
+        ),
+        (
+            "expand|C1|--size=1|--password=x|--random=0g",
+            Reason::NoSuchOption("no-hidden"),
         ),
         (
             "restore|C1|--password=x|--random=0g",

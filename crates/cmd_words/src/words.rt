@@ -46,6 +46,7 @@ fn make(alloc: Global, name: Name, matches: &ArgMatches<'_>) -> Result<Command, 
         Name::Cat => make::make_cat(matches, path),
         Name::Passwd => make::make_passwd(matches, path),
         Name::Restore => make::make_restore(matches, path),
+        Name::Expand => make::make_expand(matches, path),
         Name::Serve => make::make_serve(matches, path),
         Name::Drill => make::make_drill(matches),
     };

@@ -97,6 +97,7 @@ fn overwrite_key(command: &mut Command) {
         Command::Hide { random, .. } => random.fill(0),
         Command::Passwd { random, .. } => random.fill(0),
         Command::Restore { random, .. } => random.fill(0),
+        Command::Expand { random, .. } => random.fill(0),
         _ => {}
     }
 }
@@ -109,6 +110,7 @@ fn overwrite_first(command: &mut Command) {
         Command::Cat { password, .. } => overwrite_password(password),
         Command::Passwd { password, .. } => overwrite_password(password),
         Command::Restore { password, .. } => overwrite_password(password),
+        Command::Expand { password, .. } => overwrite_password(password),
         Command::Serve { password, .. } => overwrite_password(password),
         Command::Drill { .. } => {}
     }

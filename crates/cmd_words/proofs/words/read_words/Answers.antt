@@ -20,6 +20,7 @@ row_made name.Info = refl
 row_made name.Cat = refl
 row_made name.Passwd = refl
 row_made name.Restore = refl
+row_made name.Expand = refl
 row_made name.Serve = refl
 row_made name.Drill = refl
 
