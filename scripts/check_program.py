@@ -6,7 +6,7 @@
 PROGRAM defaults to crates/vcserve/out/vcserve. It is not built here: `rt run` in crates/vcserve
 builds it (README.md). Each row runs it once and compares the exit status, the
 standard output, the standard error and the container after it: the same bytes as before, or those
-that the command has to leave (check_format.py, check_hidden.py, check_change.py). Secrets in files and a
+that the command has to leave (check_format.py, check_hidden.py, check_change.py, check_expand.py). Secrets in files and a
 person's terminal are tried by check_secrets.py and check_terminal.py. A row that is wrong is printed; the
 last line counts them. What can't be tried on this machine is printed too.
 
@@ -21,6 +21,7 @@ import tempfile
 import time
 
 import check_change
+import check_expand
 import check_format
 import check_hidden
 import check_secrets
@@ -429,6 +430,7 @@ def main(words):
         check_format.check(rows, small, folder)
         check_hidden.check(rows, folder)
         check_change.check(rows, folder)
+        check_expand.check(rows, folder)
         check_secrets.check(rows, small, folder)
         check_terminal.check(rows, small, folder)
         sparse(rows, folder)

@@ -19,7 +19,7 @@ from program_rows import LIMIT, LINES, PASSWORD, differences, differences_left, 
 FORMAT = f"format|N|--size=262656|--password=x|--random={HEX}"
 MISTAKES = [
     # commands
-    ("dog", 2, "no such command: dog; there are format, hide, info, cat, passwd and restore"),
+    ("dog", 2, "no such command: dog; there are format, hide, info, cat, passwd, restore and expand"),
     ("dog|C", 2, "no such command: dog"),
     ("Info|C|--password=x", 2, "no such command: Info"),
     ("inf|C|--password=x", 2, "no such command: inf"),
@@ -246,7 +246,7 @@ def help_at_terminal(rows, folder):
     for words in ([], ["--help"], ["-h"], ["help"]):
         status, out, told = at_terminal(rows.program, words, folder)
         lines = told.splitlines()
-        wanted = [f"vcserve {name} " for name in ("format", "hide", "info", "cat", "passwd", "restore")]
+        wanted = [f"vcserve {name} " for name in ("format", "hide", "info", "cat", "passwd", "restore", "expand")]
         faults = [] if (status, out) == (2, b"") else [f"status {status}"]
         faults += [] if lines[:1] == ["vcserve: usage"] else ["no first line"]
         faults += [f"no synopsis of {name}" for name in wanted if not any(name in line for line in lines[1:])]

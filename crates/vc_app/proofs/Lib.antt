@@ -10,6 +10,8 @@ pub mod PromiseIsKept
 pub mod Reading
 -- how a command that writes headers of an opened volume keeps its promise
 pub mod Rewriting
+-- how `expand` keeps its promise
+pub mod Expanding
 -- from the arguments to the promise that is kept
 pub mod CommandIsChosen
 -- sectors in data units and bytes

@@ -13,7 +13,7 @@ use Rattle.vc_app.specs.declared.status.Status.{Status}
 use Rattle.vc_app.specs.declared.status.Status.TheVariants.{Done, Usage, NoHeader, NoHidden, Length, BadSize, DiskFault, OutFault, NoMemory, ClientCut, ClientMagic, ClientFault}
 use Rattle.vc_app.specs.Laws.Settled.{Settled}
 use Rattle.vc_app.specs.Status.{ended, IsAfterWork, IsOfPlain, IsRefusal, work_status}
-use Rattle.vc_app.specs.Promise.{goes, Goes, IsComplete, IsEarly, IsFront, IsLate, Kept, Outcome, Plan, Promise, anywhere, nowhere, part, Reach, refused, Same, Seen, status_in, Unchanged, Whole, Within}
+use Rattle.vc_app.specs.Promise.{goes, Goes, IsComplete, IsEarly, IsFront, IsLate, Kept, Outcome, Plan, Promise, anywhere, longer, nowhere, part, Reach, refused, Same, Seen, status_in, Unchanged, Whole, Within}
 use Rattle.vc_app.proofs.Growth.{front_of_none}
 
 -- nothing was written
@@ -32,6 +32,7 @@ front_of_nothing (Some (goes plan)) old new same =
 pub unchanged_within : (r : Reach) (old new : Seen) → Unchanged old new → Within r old new
 unchanged_within nowhere old new unchanged = unchanged
 unchanged_within (part only left) old new unchanged = inl unchanged
+unchanged_within (longer len only left) old new unchanged = inl unchanged
 unchanged_within anywhere old new unchanged = tt
 
 -- ---- nothing is written

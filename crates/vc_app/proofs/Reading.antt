@@ -83,11 +83,11 @@ module _ (access : Access) (late : List Status) (streams : Bool) (reach : Reach)
   comes : (b : List ℕ) → (opened access b ≡ Some o) × (f o b ≡ goes (plan b)) → goes (plan b) ≡ outcome_of (λ o. f o b) (opened access b)
   comes b is = sym (ap (outcome_of (λ o. f o b)) is.0 ∙ is.1)
 
-  opened_goes : (image : Option (List ℕ)) (P : Plan → Type 0) → Opens image → IfSome image (λ b. P (plan b)) → Goes (what image) P
+  pub opened_goes : (image : Option (List ℕ)) (P : Plan → Type 0) → Opens image → IfSome image (λ b. P (plan b)) → Goes (what image) P
   opened_goes None P is h = tt
   opened_goes (Some b) P is h = subst (λ (x : Outcome). Goes (Some x) P) (comes b is) h
 
-  opened_front : (image old new : Option (List ℕ)) → Opens image → IfSome image (λ b. GrowsByFront old new (plan b).output)
+  pub opened_front : (image old new : Option (List ℕ)) → Opens image → IfSome image (λ b. GrowsByFront old new (plan b).output)
       → IsFront (what image) old new
   opened_front None old new is h = tt
   opened_front (Some b) old new is h = subst (λ (x : Outcome). IsFront (Some x) old new) (comes b is) h

@@ -3,8 +3,10 @@
 --
 -- promise_of arguments        the promise of a command line
 use Rattle.std.specs.Prelude.{List, Option, Some, None}
-use Rattle.cmd_words.specs.Line.{Line, Text, line, cat, format, hide, info, passwd, restore}
+use Rattle.cmd_words.specs.Line.{Line, Text, line, cat, format, hide, info, passwd, restore, expand}
+use Rattle.vc_layout.specs.declared.kind.Kind.TheVariants.{StandardOnly}
 use Rattle.vc_app.specs.Cat as cat_command
+use Rattle.vc_app.specs.Expand as expand_command
 use Rattle.vc_app.specs.Format as format_command
 use Rattle.vc_app.specs.Hide as hide_command
 use Rattle.vc_app.specs.Info as info_command
@@ -28,6 +30,9 @@ promise_of_line (passwd path password new random pim new_pim new_prf kind) =
     (record { access = record { password = password; pim = pim; kind = kind }; password = new; pim = new_pim; prf = new_prf }) random
 promise_of_line (restore path password random pim kind) =
     restore_command.promise (record { password = password; pim = pim; kind = kind }) random
+promise_of_line (expand path size password random pim no_hidden) =
+    expand_command.promise
+    (record { access = record { password = password; pim = pim; kind = StandardOnly }; size = size }) random
 promise_of_line _ = no_command
 
 abbrev pub promise_by : Option Line → Promise

@@ -18,6 +18,8 @@ pub mod Rewriting
 pub mod Passwd
 -- what `restore` promises
 pub mod Restore
+-- what `expand` promises
+pub mod Expand
 -- the commands, each with its promise
 pub mod Commands
 -- definitions that only private contracts cite

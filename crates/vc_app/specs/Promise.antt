@@ -11,6 +11,7 @@
 -- Seen                 what contracts see of a container and an output at one moment
 -- Unchanged old new    the container is as it was, also in what a crash leaves
 -- InPart .. old new    a part of the container may differ, also in what a crash leaves during the call and after it
+-- InLonger .. old new  the same, and the container may have another length
 -- Whole p old new      the work on the container is whole
 -- IsEarly p s old      what is asked and the length refuse the command with the status s
 -- IsLate p s old       the container's bytes do
@@ -41,6 +42,8 @@ pub data Reach : Type 1 where
   -- which bytes may differ, and what holds of each image that a crash may leave at any moment of the call or after it,
   -- by the bytes before it and by what a crash might leave then
   part : (List ℕ → List ℕ → Type 0) → (List ℕ → (List ℕ → Type 0) → List ℕ → Type 0) → Reach
+  -- the same, and the container may get this length
+  longer : ℕ → (List ℕ → List ℕ → Type 0) → (List ℕ → (List ℕ → Type 0) → List ℕ → Type 0) → Reach
   anywhere : Reach
 
 pub record Promise : Type 1 where
@@ -121,15 +124,23 @@ pub record InPart (only : List ℕ → List ℕ → Type 0) (left : List ℕ →
   pub size : new.size ≡ old.size
   pub crash : new.tells ≡ true → (c : List ℕ) → MayBeLeft old new c → IfSome old.image (λ b. left b old.may_leave c)
 
+pub record InLonger (len : ℕ) (only : List ℕ → List ℕ → Type 0) (left : List ℕ → (List ℕ → Type 0) → List ℕ → Type 0)
+    (old new : Seen) : Type 0 where
+  pub outside : Both old.image new.image only
+  pub size : (new.size ≡ old.size) ⊎ (new.size ≡ len)
+  pub crash : new.tells ≡ true → (c : List ℕ) → MayBeLeft old new c → IfSome old.image (λ b. left b old.may_leave c)
+
 abbrev pub Within : Reach → Seen → Seen → Type 0
 Within nowhere old new = Unchanged old new
 Within (part only left) old new = Unchanged old new ⊎ InPart only left old new
+Within (longer len only left) old new = Unchanged old new ⊎ InLonger len only left old new
 Within anywhere old new = ⊤
 
 -- what the command left lasts, if it may change the container
 abbrev pub Lasts : Reach → Seen → Type 0
 Lasts nowhere new = ⊤
 Lasts (part only left) new = IsLasting new.tells new.image new.may_leave
+Lasts (longer len only left) new = IsLasting new.tells new.image new.may_leave
 Lasts anywhere new = IsLasting new.tells new.image new.may_leave
 
 -- ---- what a promise means

@@ -1,6 +1,7 @@
 //! What opens a volume.
-ghost use Rattle.std.specs.Prelude.{◌≡◌, ◌≤◌, Some, IfOk, IfSome, OnOk};
+ghost use Rattle.std.specs.Prelude.{◌≡◌, ◌≤◌, Some, Contains, IfOk, IfSome, OnOk};
 ghost use Rattle.kdf_hmac.specs.Pbkdf2.{IsPim};
+ghost use Rattle.vc_layout.specs.Kinds.{slots_of};
 ghost use Rattle.vc_layout.specs.Layout.{IsContainerLength};
 ghost use Rattle.vc_header.specs.Header.{Meets};
 ghost use Rattle.vc_outside.specs.Crash.{Outcomes, Stays};
@@ -39,6 +40,7 @@ impl Access {
             (D.faults disk.old) (D.faults disk.new) }
         ensures in_range { OnOk result (IsContainerLength (D.size disk.old)) }
         ensures later { D.faults disk.old ≤ D.faults disk.new }
+        ensures slot { IfOk result (λ o. Contains (slots_of self.now.kind) o.slot) }
         ensures meets { IfOk result (λ o. Meets o.fields o.slot (D.size disk.old)) }
         ensures image { D.image disk.new ≡ D.image disk.old }
         ensures size { D.size disk.new ≡ D.size disk.old }

@@ -1,6 +1,7 @@
 //! The commands, a file each.
 
 pub mod cat;
+pub mod expand;
 pub mod format;
 pub mod hide;
 pub mod info;

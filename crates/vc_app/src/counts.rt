@@ -37,7 +37,7 @@ impl Counts {
     }
 
     /// Whether the container's count isn't what it was.
-    fn disk_failed<D: Store>(&self, disk: &D) -> bool
+    pub(crate) fn disk_failed<D: Store>(&self, disk: &D) -> bool
         ensures { MatchBool result (D.faults disk.now ≢ self.now.disk) (D.faults disk.now ≡ self.now.disk) }
     {
         disk.faults() != self.disk

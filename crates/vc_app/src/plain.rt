@@ -7,6 +7,7 @@ ghost use Rattle.vc_app.specs.Promise.{IsComplete, Kept, seen};
 
 use crate::access::Access;
 use crate::commands::cat::{Cat, run_cat};
+use crate::commands::expand::{Expand, run_expand};
 use crate::commands::format::run_format;
 use crate::commands::hide::run_hide;
 use crate::commands::info::run_info;
@@ -14,13 +15,14 @@ use crate::commands::passwd::{Passwd, run_passwd};
 use crate::commands::restore::run_restore;
 use crate::status::Status;
 use cmd_words::{Command, read_words};
+use header_try::Kind;
 use std::alloc::Global;
 use std::thread::Threads;
 use vc_outside::{Sink, Store};
 use volume_format::{FormatSpec, HiddenSpec};
 
 /// Carries out the command that the arguments are, over a container and an output, and gives both back. So far
-/// the commands are `format`, `hide`, `info`, `cat`, `passwd` and `restore`.
+/// the commands are `format`, `hide`, `info`, `cat`, `passwd`, `restore` and `expand`.
 ///
 /// The call keeps the promise of the command. Arguments that are no command of this call have a promise too:
 /// Usage, with nothing touched.
@@ -169,6 +171,22 @@ fn carry_out<R: Threads + Sync, D: Store, O: Sink>(
                 kind,
             };
             Status::from(run_restore(rt, alloc, disk, out, &access, random))
+        }
+        Command::Expand {
+            path: _path,
+            size,
+            password,
+            random,
+            pim,
+            no_hidden: _no_hidden,
+        } => {
+            let access = Access {
+                password,
+                pim,
+                kind: Kind::StandardOnly,
+            };
+            let command = Expand { access, size };
+            Status::from(run_expand(rt, alloc, disk, out, &command, random))
         }
         _ => Status::Usage,
     }

@@ -43,6 +43,11 @@ pub(crate) fn explain<R: Eprint + AllocGlobal>(
                     "  --kind hidden tries the hidden volume's backup header alone"
                 );
             }
+            if command == "expand" {
+                return eprintln!(rt;
+                    "  it opens the standard header alone; restore writes that from its backup"
+                );
+            }
             eprintln!(rt;
                 "  --backup tries the backup headers, --kind hidden the hidden volume's header alone"
             )
@@ -107,6 +112,11 @@ fn explain_size<R: Eprint>(rt: &R, command: &str) -> io::Result<()> {
                 "  --size is a multiple of --sector, from one sector to the container's length less 262144"
             )
         }
+        "expand" => {
+            eprintln!(rt;
+                "  --size is a multiple of the sector size, above the container's length, to 1099511627776"
+            )
+        }
         _ => eprintln!(rt; "  the volume doesn't have these sectors; info tells its size"),
     }
 }
@@ -136,7 +146,7 @@ fn tell_reason<R: Eprint>(rt: &R, reason: Reason<'_>) -> io::Result<()> {
         Reason::NoCommand(word) => {
             let name = name_in(word);
             eprintln!(rt;
-                "  no such command: {name}; there are format, hide, info, cat, passwd and restore"
+                "  no such command: {name}; there are format, hide, info, cat, passwd, restore and expand"
             )
         }
         Reason::NoOption(word, Some(nearest)) => {

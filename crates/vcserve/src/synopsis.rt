@@ -15,10 +15,15 @@ pub(crate) fn synopsis_of(name: &str) -> Option<&'static str> {
             "vcserve passwd PATH --password P --new P --random HEX [--pim N] [--new-pim N] [--new-prf NAME] [--kind KIND] [--backup]"
         }
         "restore" => { "vcserve restore PATH --password P --random HEX [--pim N] [--kind KIND]" }
+        "expand" => {
+            "vcserve expand PATH --size N --password P --random HEX --no-hidden [--pim N]"
+        }
         _ => return None,
     };
     Some(text)
 }
 
 /// The commands that are built.
-pub(crate) const COMMANDS: [&str; 6] = ["format", "hide", "info", "cat", "passwd", "restore"];
+pub(crate) const COMMANDS: [&str; 7] = [
+    "format", "hide", "info", "cat", "passwd", "restore", "expand",
+];

@@ -30,3 +30,6 @@ returns-in-Passwd g c = kept _ _ _ _ _ _ c.in-Passwd.is c.from-in-Passwd.ensures
 
 pub returns-in-Restore : goal.returns-in-Restore
 returns-in-Restore g c = kept _ _ _ _ _ _ c.in-Restore.is c.from-in-Restore.ensures c.run_restore.ensures
+
+pub returns-in-Expand : goal.returns-in-Expand
+returns-in-Expand g c = kept _ _ _ _ _ _ c.in-Expand.is c.from-in-Expand.ensures c.run_expand.ensures
