@@ -9,9 +9,10 @@ mod turned_down;
 use crate::{Admit, Close, Core, Deposit, Fetch, Prepared};
 use cipher_base::UnitCipher;
 use sector_model::FaultMark;
+use std::alloc::Global;
 use std::test::Fail;
 use vc_layout::Geometry;
-use vc_outside::{MemStore, SureStore};
+use vc_outside::{MemStore, Store, SureStore};
 
 #[derive(Clone, Copy)]
 struct Same;
@@ -122,8 +123,31 @@ fn with_three_fragments(rt: &HostRuntime, failing: u64) -> Option<Core<MemStore,
     }
 }
 
+// The same over any store, with this data.
+fn with_a_write<S: Store + Drop>(alloc: Global, disk: S, bytes: Vec<u8>) -> Option<Core<S, Same>>
+    requires disk { S.size disk ≡ 787456 }
+    requires bytes { length bytes.items ≡ 786432 }
+    ensures { IfSome result (λ c. Any (λ p. HasName 1 0 (write_of p)) c.pending) }
+{
+    let geometry = Geometry {
+        start: 512,
+        sectors: 1536,
+        sector: 512,
+    };
+    let Ok(mut core) = Core::new(alloc, disk, geometry, Same, None, 1) else {
+        return None;
+    };
+    let Ok(write) = Prepared::new(alloc, 1, 0, 0, bytes) else {
+        return None;
+    };
+    match core.admit_write(write) {
+        Admit::In => Some(core),
+        _ => None,
+    }
+}
+
 // Hands in this data for a fragment of that write.
-fn hand_in(core: &mut Core<MemStore, Same>, index: u64, unit: u64, handed: &[u8]) -> Deposit
+fn hand_in<S: Store>(core: &mut Core<S, Same>, index: u64, unit: u64, handed: &[u8]) -> Deposit
     requires { length handed.now % 512 ≡ 0 }
     ensures { Any (λ p. HasName 1 0 (write_of p)) core.old.pending → Any (λ p. HasName 1 0 (write_of p)) core.new.pending }
 {
@@ -177,6 +201,66 @@ fn three_fragments_are_stored_in_each_order(rt: HostRuntime) -> Result<(), Fail>
             let stored = core.disk.bytes().iter().filter(|byte| **byte == 9).count();
             assert_eq!(rt; stored, if failing < 3 { 655_360 } else { 786_432 });
         }
+    }
+    Ok(())
+}
+
+// Byte i of the data is i modulo 251, so no two sectors of it are alike.
+fn byte_of(i: usize) -> u8 {
+    (i % 251) as u8
+}
+
+// Whether these bytes have that data from byte 512 on, and zeros before and behind it.
+fn holds_the_write(bytes: &[u8]) -> bool {
+    let data = bytes.iter().skip(512).take(786_432);
+    let before = bytes.iter().take(512);
+    let behind = bytes.iter().skip(786_944);
+    data.enumerate().all(|(i, byte)| *byte == byte_of(i))
+        && before.chain(behind).all(|byte| *byte == 0)
+}
+
+// Deposits the fragments of that write in this order, and ends it. None if one isn't stored.
+fn end_in_order(core: &mut Core<SureStore, Same>, order: [u64; 3]) -> Option<Close>
+    requires { Any (λ p. HasName 1 0 (write_of p)) core.old.pending }
+{
+    let [first, second, third] = order;
+    let one = hand_in(core, first, 0, &[]);
+    let two = hand_in(core, second, 0, &[]);
+    let three = hand_in(core, third, 0, &[]);
+    let end = core.close_write(1, 0);
+    if one == Deposit::Stored && two == Deposit::Stored && three == Deposit::Stored {
+        Some(end)
+    } else {
+        None
+    }
+}
+
+// By hand: the data is at its place, and before and behind it the store has its zeros.
+#[test]
+fn three_fragments_make_the_write_in_each_order(rt: HostRuntime) -> Result<(), Fail> {
+    let orders = [
+        [0u64, 1, 2],
+        [0, 2, 1],
+        [1, 0, 2],
+        [1, 2, 0],
+        [2, 0, 1],
+        [2, 1, 0],
+    ];
+    for order in orders {
+        let zeros = vec![in rt.alloc(); 0u8; 787_456].map_err(|_| "no memory")?;
+        let mut data = vec![in rt.alloc(); 0u8; 786_432].map_err(|_| "no memory")?;
+        for (i, byte) in data.iter_mut().enumerate() {
+            *byte = byte_of(i);
+        }
+        let Some(mut core) = with_a_write(rt.alloc(), SureStore::new(zeros), data) else {
+            return Err("no memory".into());
+        };
+        let Some(Close::Done(bytes)) = end_in_order(&mut core, order) else {
+            return Err("each fragment is stored, and the write ends".into());
+        };
+        assert_eq!(rt; bytes.len(), 786_432);
+        assert_eq!(rt; core.pending(), 0);
+        assert!(rt; holds_the_write(core.disk.bytes()));
     }
     Ok(())
 }

@@ -13,7 +13,7 @@ use Rattle.io_core.proofs.Elements.{element_right, first_element}
 use Rattle.io_core.proofs.tests.hand_in.Goals as goal
 
 pub deposit-requires : goal.deposit-requires
-deposit-requires c =
+deposit-requires g c =
     record { sealed = sym (in_pieces_identity 512 (length c.args.handed.now / 512) c.args.handed.now (lit< tt) (omega (arith, c.requires))) }
 
 -- the write is pending after a deposit
@@ -28,7 +28,7 @@ by_answer (deposit.Spoilt m) A B stray stored spoilt a = spoilt m refl
 by_answer deposit.Stray A B stray stored spoilt a = stray refl a
 
 pub returns : goal.returns
-returns c =
+returns g c =
     by_answer c.deposit.result _ _
     (λ is any. subst (λ s. Any (λ p. HasName 1 0 (write_of p)) s.pending) (sym (c.deposit.ensures.stray_changes_nothing is)) any)
     (λ is. still_there _ _ _ _ (c.deposit.ensures.stored is))
