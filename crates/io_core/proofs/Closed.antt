@@ -26,7 +26,8 @@ use Rattle.sector_model.specs.declared.entry.Event.{Event}
 use Rattle.sector_model.specs.declared.entry.Event.TheVariants.{Done, Lost}
 use Rattle.sector_model.specs.declared.entry.FaultMark.{FaultMark}
 use Rattle.sector_model.proofs.OneMore.{after-push, is_flushed-push, is_frozen-push, IsOrdered-push, IsTold-push, marks_in-push, open_writes-push}
-use Rattle.io_core.specs.Closings.{answer_to, entries_of, data_in, spoilt_of, state_of}
+use Rattle.io_core.specs.Closings.{entries_of, data_in, spoilt_of}
+use Rattle.io_core.specs.Laws.StateOf.{answer_to, state_of}
 use Rattle.sector_model.proofs.Overwritten.{whole_units}
 use Rattle.io_core.specs.State.{IsPlaced, IsPlacedWrite, State, write_of}
 use Rattle.io_core.specs.Sound.{Contents, marks_of_parts, marks_pending, plain, Sound, StoredHolds, volume}

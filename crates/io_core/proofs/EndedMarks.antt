@@ -1,5 +1,5 @@
 -- A close ends a write: its name and its marks leave what is pending.
-use Rattle.std.proofs.Common.{◌≡◌, ◌≤◌, ◌<◌, ◌≢◌, inl, inr, ℕ, zero, suc, ◌+◌, Bool, true, false, ◌&&◌, eqb, cond, List, [], ◌∷◌, ◌++◌, Some, length, refl, ap, ◌∙◌, arith}
+use Rattle.std.proofs.Common.{◌≡◌, ◌≤◌, ◌<◌, ◌≢◌, inl, inr, ℕ, zero, suc, ◌+◌, Bool, true, false, ◌&&◌, eqb, cond, List, [], ◌∷◌, ◌++◌, Some, get_or, length, refl, sym, ap, ◌∙◌, arith}
 use Rattle.std.specs.Prelude.{map, slice_get}
 use Rattle.std.specs.List.{All, AllPairs, Any}
 use Rattle.std.proofs.lemmas.Bool.Decides.{eqb_tells}
@@ -7,10 +7,13 @@ use Rattle.std.proofs.lemmas.List.Elements.{All-append}
 use Rattle.sector_model.specs.History.{has_name, HasName, without, Write}
 use Rattle.sector_model.specs.Marks.{AreMarks, IsMark}
 use Rattle.sector_model.specs.declared.entry.FaultMark.{FaultMark}
-use Rattle.io_core.specs.Closings.{before_others, spoilt_from, state_of}
+use Rattle.io_core.specs.Closings.{IsEndOf, spoilt_from}
+use Rattle.io_core.specs.Fragments.{IsWaiting}
+use Rattle.io_core.specs.Laws.StateOf.{answer_to, before_others, state_of}
 use Rattle.io_core.specs.Sound.{mark_of, marks_of_parts}
 use Rattle.io_core.specs.declared.part.PartState.{PartState}
 use Rattle.io_core.specs.declared.part.PartState.TheVariants.{Waiting, Stored, Spoilt}
+use Rattle.io_core.specs.declared.prepared.Prepared.{Prepared}
 use Rattle.io_core.proofs.OneMoreMark.{all_left, all_right, covering-append}
 
 pub is_named : (caller number : ℕ) (w : Write) → HasName caller number w → has_name caller number w ≡ true
@@ -151,3 +154,46 @@ some_spoilt k [] m is = cc
 some_spoilt k (Waiting ∷ xs) m is = cc
 some_spoilt k (Stored ∷ xs) m is = some_spoilt (suc k) xs m is
 some_spoilt k (Spoilt n ∷ xs) m is = omega arith
+
+-- How the write ends, by what its fragments come to.
+some_waits : (xs : List PartState) → state_of xs ≡ Waiting → Any IsWaiting xs
+some_waits [] is = cc
+some_waits (Waiting ∷ xs) is = (0, Waiting, omega arith, refl, refl)
+some_waits (Stored ∷ xs) is = let a = some_waits xs is in (suc a.0, a.1, omega (arith, a.2), a.3, a.4)
+some_waits (Spoilt m ∷ xs) is = let a = some_waits xs (then_waits (state_of xs) is) in (suc a.0, a.1, omega (arith, a.2), a.3, a.4)
+  where
+    then_waits : (x : PartState) → before_others (Spoilt m) x ≡ Waiting → x ≡ Waiting
+    then_waits Waiting d = refl
+    then_waits Stored d = cc
+    then_waits (Spoilt n) d = cc
+
+none_waits_at : (xs : List PartState) → state_of xs ≢ Waiting → (k : ℕ) (d : PartState) → k < length xs → get_or xs k d ≢ Waiting
+none_waits_at [] none k d within = absurd (omega (arith, within))
+none_waits_at (x ∷ xs) none zero d within = (none_waits x (state_of xs) none).0
+none_waits_at (x ∷ xs) none (suc k) d within = none_waits_at xs (none_waits x (state_of xs) none).1 k d (omega arith)
+
+each_stored : (xs : List PartState) → state_of xs ≡ Stored → All (λ x. x ≡ Stored) xs
+each_stored [] is k d within = absurd (omega (arith, within))
+each_stored (x ∷ xs) is zero d within = (all_stored x (state_of xs) is).0
+each_stored (x ∷ xs) is (suc k) d within = each_stored xs (all_stored x (state_of xs) is).1 k d (omega arith)
+
+-- the first failure is the first in the list of them
+first_spoilt : (k : ℕ) (xs : List PartState) (m : FaultMark) → state_of xs ≡ Spoilt m
+    → (j : ℕ) × (others : List (ℕ × FaultMark)) × (spoilt_from k xs ≡ (j, m) ∷ others)
+first_spoilt k [] m is = cc
+first_spoilt k (Waiting ∷ xs) m is = cc
+first_spoilt k (Stored ∷ xs) m is = first_spoilt (suc k) xs m is
+first_spoilt k (Spoilt a ∷ xs) m is =
+    (k, spoilt_from (suc k) xs, ap (λ (y : FaultMark). (k, y) ∷ spoilt_from (suc k) xs) (same (state_of xs) is))
+  where
+    same : (x : PartState) → before_others (Spoilt a) x ≡ Spoilt m → a ≡ m
+    same Waiting d = cc
+    same Stored d = cc
+    same (Spoilt b) d = cc
+
+pub end_by_state : (w : Prepared) (x : PartState) → state_of w.parts.items ≡ x → IsEndOf w (answer_to x w)
+end_by_state w Waiting is = some_waits w.parts.items is
+end_by_state w Stored is = (refl, each_stored w.parts.items is)
+end_by_state w (Spoilt m) is =
+    let f = first_spoilt 0 w.parts.items m is in
+    ((λ a. none_waits_at w.parts.items (λ e. let never : Spoilt m ≡ Waiting = sym is ∙ e in cc) a.0 a.1 a.2 (a.3 ∙ a.4)), f.0, f.1, f.2)

@@ -1,12 +1,11 @@
 -- What a close does.
 --
--- state_of parts          what fragments in these states come to: waiting if one waits; else the first failure; else stored
--- spoilt_of parts         the fragments that failed, by index and mark
--- close_of w              the answer for the write w
+-- spoilt_of parts         the fragments that failed, by index and mark, in the order of their indices
+-- IsEndOf w answer        this is the answer for the write w, by what became of its fragments
 -- data_now ..             what the sectors of the write w hold by the store's image; if that is unknown, the write's own data
 -- IsClosed ..             the write of this name gets its answer, and isn't pending afterwards unless a fragment waits
 -- close_entries ..        what a close adds to the history
-use Rattle.std.specs.Prelude.{◌≡◌, ℕ, suc, ◌+◌, ◌*◌, ◌/◌, List, [], ◌∷◌, ◌++◌, Option, Some, None}
+use Rattle.std.specs.Prelude.{◌≡◌, ℕ, suc, ◌+◌, ◌*◌, ◌/◌, List, [], ◌∷◌, ◌++◌, Option, Some, None, All, Any}
 use Rattle.vc_base.specs.Bytes.{joined}
 use Rattle.vc_layout.specs.declared.geometry.Geometry.{Geometry}
 use Rattle.vc_outside.specs.declared.store.Store.{Ghosts as StoreGhosts}
@@ -17,6 +16,7 @@ use Rattle.sector_model.specs.Plain.{entry}
 use Rattle.sector_model.specs.declared.entry.Entry.{Entry}
 use Rattle.sector_model.specs.declared.entry.Event.TheVariants.{Done, Lost}
 use Rattle.sector_model.specs.declared.entry.FaultMark.{FaultMark}
+use Rattle.io_core.specs.Fragments.{IsWaiting}
 use Rattle.io_core.specs.Named.{named}
 use Rattle.io_core.specs.Sound.{plain, volume}
 use Rattle.io_core.specs.State.{State, write_of}
@@ -25,18 +25,6 @@ use Rattle.io_core.specs.declared.answers.Close.TheVariants as close
 use Rattle.io_core.specs.declared.part.PartState.{PartState}
 use Rattle.io_core.specs.declared.part.PartState.TheVariants.{Waiting, Stored, Spoilt}
 use Rattle.io_core.specs.declared.prepared.Prepared.{Prepared}
-
--- of one fragment and those after it
-abbrev pub before_others : PartState → PartState → PartState
-before_others Waiting others = Waiting
-before_others Stored others = others
-before_others (Spoilt m) Waiting = Waiting
-before_others (Spoilt m) Stored = Spoilt m
-before_others (Spoilt m) (Spoilt n) = Spoilt m
-
-abbrev pub state_of : List PartState → PartState
-state_of [] = Stored
-state_of (x ∷ xs) = before_others x (state_of xs)
 
 abbrev pub spoilt_from : ℕ → List PartState → List (ℕ × FaultMark)
 spoilt_from k [] = []
@@ -47,13 +35,13 @@ spoilt_from k (Spoilt m ∷ xs) = (k, m) ∷ spoilt_from (suc k) xs
 abbrev pub spoilt_of : List PartState → List (ℕ × FaultMark)
 spoilt_of xs = spoilt_from 0 xs
 
-abbrev pub answer_to : PartState → Prepared → Close
-answer_to Waiting w = close.Waiting
-answer_to Stored w = close.Done w.bytes
-answer_to (Spoilt m) w = close.Lost m
-
-abbrev pub close_of : Prepared → Close
-close_of w = answer_to (state_of w.parts.items) w
+-- Waiting: a fragment waits. Done: all were stored, and the write's data comes back. Lost: none waits and some failed,
+-- of which this is the first one's mark.
+abbrev pub IsEndOf : Prepared → Close → Type 0
+IsEndOf w close.Waiting = Any IsWaiting w.parts.items
+IsEndOf w (close.Done bytes) = (bytes ≡ w.bytes) × All (λ x. x ≡ Stored) w.parts.items
+IsEndOf w (close.Lost m) = ¬ Any IsWaiting w.parts.items
+    × (k : ℕ) × (others : List (ℕ × FaultMark)) × (spoilt_of w.parts.items ≡ (k, m) ∷ others)
 
 abbrev pub pending_after : Close → List Prepared → List Prepared → List Prepared
 pending_after close.Waiting old rest = old
@@ -66,7 +54,7 @@ pub record IsClosed (caller number : ℕ) (answer : Close) (old new : List Prepa
   pub write : Prepared
   pub was : old ≡ below ++ write ∷ above
   pub name : HasName caller number (write_of write)
-  pub outcome : answer ≡ close_of write
+  pub outcome : IsEndOf write answer
   pub now : new ≡ pending_after answer old (below ++ above)
 
 module _ {S C : Type 0} (store : StoreGhosts S) (cipher : CipherGhosts C) where

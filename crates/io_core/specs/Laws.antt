@@ -4,3 +4,5 @@ pub mod Invariant
 pub mod Marked
 -- what became of a fragment that was written
 pub mod Sealed
+-- what the fragments of a write come to
+pub mod StateOf

@@ -2,7 +2,8 @@
 ghost use Rattle.std.specs.Prelude.{◌≡◌, ◌≢◌, ◌++◌, ◌≤◌, ◌<◌, ℕ, List, Any, Contains, drop};
 ghost use Rattle.sector_model.specs.History.{HasName};
 ghost use Rattle.sector_model.specs.declared.entry.Entry.{Entry};
-ghost use Rattle.io_core.specs.Closings.{answer_to, before_others, close_entries, IsClosed, state_of};
+ghost use Rattle.io_core.specs.Closings.{close_entries, IsClosed};
+ghost use Rattle.io_core.specs.Laws.StateOf.{answer_to, before_others, state_of};
 ghost use Rattle.io_core.specs.Sound.{Sound};
 ghost use Rattle.io_core.specs.State.{SameVolume, State, write_of};
 ghost use Rattle.io_core.specs.declared.prepared.Prepared.{Prepared};

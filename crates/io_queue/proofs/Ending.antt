@@ -16,14 +16,12 @@ use Rattle.std.specs.Global.{Global}
 use Rattle.io_core.specs.Entries.{admit_entries}
 use Rattle.io_core.specs.declared.answers.Admit.{Admit}
 use Rattle.io_core.specs.declared.answers.Admit.TheVariants as admit
-use Rattle.io_core.specs.Closings.{answer_to, before_others, close_entries, close_of, data_now, entries_of, IsClosed, spoilt_from, state_of}
+use Rattle.io_core.specs.Closings.{close_entries, data_now, entries_of, IsClosed, IsEndOf}
 use Rattle.io_core.specs.Named.{named}
 use Rattle.io_core.specs.Sound.{Sound, volume}
 use Rattle.io_core.specs.State.{State, write_of}
 use Rattle.io_core.specs.declared.answers.Close.{Close}
 use Rattle.io_core.specs.declared.answers.Close.TheVariants as close
-use Rattle.io_core.specs.declared.part.PartState.{PartState}
-use Rattle.io_core.specs.declared.part.PartState.TheVariants.{Waiting, Stored, Spoilt}
 use Rattle.io_core.specs.declared.prepared.Prepared.{Prepared}
 use Rattle.io_core.proofs.Elements.{first_element, unmapped_element}
 use Rattle.io_core.proofs.EndedMarks.{is_named}
@@ -34,19 +32,6 @@ use Rattle.io_queue.specs.Laws.Opens.{IsOwn, Opens}
 use Rattle.io_queue.specs.Pass.{Call, caller_of, NothingOpen, shape}
 use Rattle.io_queue.proofs.Passes.{calls, nothing_opens, still_open}
 use Rattle.io_queue.proofs.OwnWrites.{filtered_element, is_own, own_writes}
-
--- the mark of a write that lost fragments is that of the first in its list
-first_spoilt : (k : ℕ) (parts : List PartState) (m : FaultMark) → state_of parts ≡ Spoilt m
-    → (j : ℕ) × (more : List (ℕ × FaultMark)) × (spoilt_from k parts ≡ (j, m) ∷ more)
-first_spoilt k [] m e = cc
-first_spoilt k (Waiting ∷ xs) m e = cc
-first_spoilt k (Stored ∷ xs) m e = first_spoilt (suc k) xs m e
-first_spoilt k (Spoilt a ∷ xs) m e = (k, spoilt_from (suc k) xs, ap (λ (y : FaultMark). (k, y) ∷ spoilt_from (suc k) xs) (same (state_of xs) e))
-  where
-    same : (x : PartState) → before_others (Spoilt a) x ≡ Spoilt m → a ≡ m
-    same Waiting d = cc
-    same Stored d = cc
-    same (Spoilt b) d = cc
 
 not_nil : (w : Write) (ws : List Write) → w ∷ ws ≡ [] → ⊥
 not_nil w ws e = cc
@@ -129,21 +114,15 @@ module _ {S C : Type 0} (store : StoreGhosts S) (cipher : CipherGhosts C) (s : S
           many = ap (λ (w : Write). sectors_of (volume s) w.bytes) at_write.1
               ∙ ap (λ (k : Geometry). sectors_of (shape k) m.bytes) (sound.geometry_same ∙ m.geometry) ∙ m.sectors
 
-          spoilt : (x : PartState) (mark : FaultMark) → close.Lost mark ≡ answer_to x p → x ≡ Spoilt mark
-          spoilt Waiting mark d = cc
-          spoilt Stored mark d = cc
-          spoilt (Spoilt b) mark d = cc
-
-          go : (a : Close) → a ≡ close_of p → Ends caller first count a (entries_of store cipher s caller 0 a (Some p))
+          go : (a : Close) → IsEndOf p a → Ends caller first count a (entries_of store cipher s caller 0 a (Some p))
           go close.Waiting e = refl
           go (close.Done bytes) e = λ i. entry caller 0 (event.Done (from i) (many i)) ∷ []
-          go (close.Lost mark) e =
-              let f = first_spoilt 0 p.parts.items mark (spoilt (state_of p.parts.items) mark e) in (
-                data_now store cipher s p,
-                f.0,
-                f.1,
-                λ i. entry caller 0 (event.Lost (from i) (data_now store cipher s p) (f.2 i)) ∷ [],
-              )
+          go (close.Lost mark) e = (
+            data_now store cipher s p,
+            e.1,
+            e.2,
+            λ i. entry caller 0 (event.Lost (from i) (data_now store cipher s p) (e.3 i)) ∷ [],
+          )
 
 -- what an end leaves open
 ends_open : (n first count : ℕ) (w : Write) → HasName n 0 w → (answer : Close) (es : List Entry) → Ends n first count answer es

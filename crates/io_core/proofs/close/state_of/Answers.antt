@@ -1,6 +1,6 @@
 use Rattle.std.proofs.Common.{◌+◌, ◌∷◌, List, get_or, drop, sym, ap, ◌∙◌, drop-cons, add-one}
 use Rattle.std.proofs.lemmas.List.{drop_all}
-use Rattle.io_core.specs.Closings.{before_others, state_of}
+use Rattle.io_core.specs.Laws.StateOf.{before_others, state_of}
 use Rattle.io_core.specs.declared.part.PartState.{PartState}
 use Rattle.io_core.specs.declared.part.PartState.TheVariants.{Waiting}
 use Rattle.io_core.proofs.EndedMarks.{one_by_one, then_none}

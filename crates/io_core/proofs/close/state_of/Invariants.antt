@@ -1,5 +1,5 @@
 use Rattle.std.proofs.Common.{◌≡◌, drop}
-use Rattle.io_core.specs.Closings.{before_others, state_of}
+use Rattle.io_core.specs.Laws.StateOf.{before_others, state_of}
 use Rattle.io_core.proofs.close.state_of.Given as goal
 
 abbrev pub invariant-loop-part : goal.invariant-loop-part

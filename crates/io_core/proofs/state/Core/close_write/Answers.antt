@@ -4,7 +4,8 @@ use Rattle.std.proofs.lemmas.List.{get_or_read}
 use Rattle.range_book.specs.declared.reserved.Reserved.{Reserved}
 use Rattle.vc_layout.specs.declared.geometry.Geometry.{Geometry}
 use Rattle.sector_model.specs.History.{HasName}
-use Rattle.io_core.specs.Closings.{answer_to, close_entries, entries_of, IsClosed, pending_after, state_of}
+use Rattle.io_core.specs.Closings.{close_entries, entries_of, IsClosed, IsEndOf, pending_after}
+use Rattle.io_core.specs.Laws.StateOf.{answer_to, state_of}
 use Rattle.io_core.specs.Laws.Invariant.{range_of}
 use Rattle.io_core.specs.Named.{named}
 use Rattle.io_core.specs.Sound.{Sound}
@@ -16,6 +17,7 @@ use Rattle.io_core.specs.declared.part.PartState.TheVariants.{Waiting, Stored, S
 use Rattle.io_core.specs.declared.prepared.Prepared.{Prepared}
 use Rattle.io_core.proofs.Closed.{sound_answered}
 use Rattle.io_core.proofs.Elements.{mapped_element}
+use Rattle.io_core.proofs.EndedMarks.{end_by_state}
 use Rattle.io_core.proofs.Found.{the_found}
 use Rattle.io_core.proofs.Named.{found, IsFound}
 use Rattle.io_core.proofs.Released.{core_closed, parted}
@@ -55,7 +57,7 @@ returns-in-Waiting-clause-closed g c =
       write = d;
       was = parted ps c.in-Some.at d within c.index.ensures;
       name = here;
-      outcome = sym (ap (λ (x : PartState). answer_to x d) waits);
+      outcome = end_by_state d Waiting waits;
       now = refl;
     } in
     subst (λ (s : State _ _). IsClosed c.args.caller c.args.number close.Waiting s.pending s.pending) c.self.view_is closed
@@ -78,7 +80,7 @@ returns-clause-closed g c =
       write = p;
       was = parted ps c.in-Some.at p within c.remove-write.ensures.value;
       name = here;
-      outcome = c.answer_to.ensures ∙ ap (λ (x : PartState). answer_to x p) state;
+      outcome = subst (IsEndOf p) (sym c.answer_to.ensures) (end_by_state p c.state_of-state.result (sym state));
       now = c.remove-write.ensures.items
           ∙ sym (ap (λ (a : Close). pending_after a ps rest) c.answer_to.ensures ∙ only_others c.state_of-state.result p ps rest c.in_default-state.not-Waiting);
     } in
