@@ -55,6 +55,7 @@ impl<S: Store, C: UnitCipher> Volume<S, C> {
             ↔ ¬ Fits (shape self.now.geometry) first (sectors_of (shape self.now.geometry) bytes.items) }
         ensures judged { result ≢ Err IoError.Range → result ≢ Err IoError.NoMemory
             → Admitted (view pass.old.seat) (view pass.new.seat) first (sectors_of (shape self.now.geometry) bytes.items) result }
+        ensures no_memory { result ≡ Err IoError.NoMemory → view pass.new.seat ≡ view pass.old.seat }
         ensures stands { result ≢ Err IoError.NoMemory → StandsFor ⟦<S as Store>⟧ ⟦<C as UnitCipher>⟧ (view pass.new.seat) }
     {
         let count = self.sectors_of(&bytes);
