@@ -205,6 +205,16 @@ fn three_fragments_are_stored_in_each_order(rt: HostRuntime) -> Result<(), Fail>
     Ok(())
 }
 
+// A store of so many zeros.
+fn empty_disk(alloc: Global, len: usize) -> Option<SureStore>
+    ensures { IfSome result (λ d. length d ≡ len) }
+{
+    match vec![in alloc; 0u8; len] {
+        Ok(zeros) => Some(SureStore::new(zeros)),
+        Err(_) => None,
+    }
+}
+
 // Byte i of the data is i modulo 251, so no two sectors of it are alike.
 fn byte_of(i: usize) -> u8 {
     (i % 251) as u8
@@ -247,12 +257,14 @@ fn three_fragments_make_the_write_in_each_order(rt: HostRuntime) -> Result<(), F
         [2, 1, 0],
     ];
     for order in orders {
-        let zeros = vec![in rt.alloc(); 0u8; 787_456].map_err(|_| "no memory")?;
+        let Some(disk) = empty_disk(rt.alloc(), 787_456) else {
+            return Err("no memory".into());
+        };
         let mut data = vec![in rt.alloc(); 0u8; 786_432].map_err(|_| "no memory")?;
         for (i, byte) in data.iter_mut().enumerate() {
             *byte = byte_of(i);
         }
-        let Some(mut core) = with_a_write(rt.alloc(), SureStore::new(zeros), data) else {
+        let Some(mut core) = with_a_write(rt.alloc(), disk, data) else {
             return Err("no memory".into());
         };
         let Some(Close::Done(bytes)) = end_in_order(&mut core, order) else {
