@@ -256,7 +256,8 @@ def help_at_terminal(rows, folder):
 
 
 def progress(rows, folder):
-    """A format of more than 256 MiB shows its progress at a terminal alone, and removes the line at the end."""
+    """A format or expand that writes more than 256 MiB shows its progress at a terminal alone, and removes the line at
+    the end."""
     path = os.path.join(folder, "progress.vc")
     for size, is_shown in [(256 << 20, False), ((256 << 20) + 512, True)]:
         words = ["format", path, "--size", str(size), "--password", PASSWORD, "--random", HEX, "--pim", "1"]
@@ -270,6 +271,19 @@ def progress(rows, folder):
         rows.note(f"progress of {size} bytes at a terminal", faults)
         done = subprocess.run([rows.program, *words], capture_output=True, stdin=subprocess.DEVNULL, timeout=LIMIT)
         rows.note(f"progress of {size} bytes without one", differences(done, 0, b"ok\n", ""))
+    for more, is_shown in [(200 << 20, False), (300 << 20, True)]:
+        with open(path, "wb") as file:
+            file.write(formatted(1 << 20, PASSWORD, 1, KEY))
+        words = ["expand", path, "--size", str((1 << 20) + more), "--password", PASSWORD, "--random", HEX, "--pim", "1",
+                 "--no-hidden"]
+        status, out, told = at_terminal(rows.program, words, folder)
+        faults = [] if (status, out) == (0, b"ok\n") else [f"status {status}, output {out!r}"]
+        lines = told.split("\r")
+        if is_shown and not (lines[-1] == "\x1b[K" and any(line.startswith("50% (") for line in lines)):
+            faults.append(f"{len(lines)} states of the line, the last {lines[-1]!r}")
+        if not is_shown and told:
+            faults.append(f"{told[:80]!r}")
+        rows.note(f"progress of {more} bytes more at a terminal", faults)
     words = ["cat", path, "0", str((size >> 9) - 512), "--password", PASSWORD, "--pim", "1"]
     with open(os.devnull, "wb") as nowhere:
         status, _, told = at_terminal(rows.program, words, folder, stdout=nowhere)

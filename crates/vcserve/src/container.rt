@@ -5,6 +5,8 @@ use std::io;
 use std::rt::Files;
 use vc_app::Status;
 use vc_host::{FileStore, Obstacle, Purpose};
+use vc_layout::GROUP;
+use vc_outside::Store;
 
 /// Why a container isn't opened.
 #[derive(Drop)]
@@ -45,7 +47,7 @@ pub(crate) fn opened<R: Files<File = File> + AllocGlobal>(
     Ok(disk)
 }
 
-/// Tells a person how much of a long `format` is done.
+/// Tells a person how much of a long `format` or `expand` is done.
 pub(crate) fn show_progress<R: Files<File = File>>(
     rt: &R,
     command: &Command,
@@ -53,6 +55,11 @@ pub(crate) fn show_progress<R: Files<File = File>>(
 ) -> io::Result<()> {
     match command {
         Command::Format { size, .. } => disk.tell_progress(rt, "/dev/stderr", *size),
+        Command::Expand { size, .. } => {
+            // The new end begins where the backup headers are.
+            let kept = disk.len().saturating_sub(GROUP);
+            disk.tell_progress(rt, "/dev/stderr", size.saturating_sub(kept))
+        }
         _ => Ok(()),
     }
 }
