@@ -8,10 +8,10 @@ import random
 import subprocess
 import time
 
-from check_format import file_size_limit
+from check_format import file_size_limit, small_disk
 from check_hidden import OUTER_KEY, write
-from independent_container import (ALGORITHMS, GROUP, PRFS, SECTOR, expanded, formatted, header_fields, is_available,
-                                   read)
+from independent_container import (ALGORITHMS, GROUP, PRFS, SECTOR, encipher, expanded, formatted, header_fields,
+                                   is_available, read)
 from program_rows import ANYTHING, PASSWORD, nobody, words_of
 
 NEW_KEY = bytes(range(0x60, 0x80))
@@ -62,6 +62,38 @@ def grown_by_hand(rows, folder):
     for more in ((), ("--backup",)):
         rows.row(f"expand: the old sectors {more}", [*words_of(path, 0, 1536), *more], 0, old)
         rows.row(f"expand: behind the last sector {more}", [*words_of(path, 3584, 1), *more], 6)
+    os.remove(path)
+
+
+def file_system(rows, folder):
+    """A volume that holds a file system: every sector of it is read afterwards, and the file system is sound."""
+    path, inner = os.path.join(folder, "system.vc"), os.path.join(folder, "system.img")
+    size = 8 << 20
+    with open(inner, "wb") as file:
+        file.truncate(size)
+    try:
+        subprocess.run(["mke2fs", "-q", "-t", "ext4", "-F", inner], check=True, capture_output=True)
+    except (OSError, subprocess.CalledProcessError) as error:
+        rows.leave_out("expand: a file system", f"none can be made: {error}")
+        os.remove(inner)
+        return
+    with open(inner, "rb") as file:
+        system = file.read()
+    image = formatted(size + 2 * GROUP, PASSWORD, 1, OUTER_KEY)
+    write(path, image)
+    keys = header_fields(path, 0, PASSWORD, 1).material
+    units = (encipher(keys, (GROUP + at) // SECTOR, system[at:at + SECTOR]) for at in range(0, size, SECTOR))
+    image = image[:GROUP] + b"".join(units) + image[-GROUP:]
+    write(path, image)
+    rows.row("expand: a file system", expand_words(path, 12 << 20), 0, b"ok\n",
+             left=expanded(image, 12 << 20, PASSWORD, 1, NEW_KEY))
+    faults = [] if read(path, 0, size // SECTOR, PASSWORD, 1) == system else ["its sectors differ"]
+    got = subprocess.run([rows.program, *words_of(path, 0, size // SECTOR)], stdout=subprocess.PIPE).stdout
+    write(inner, got)
+    if subprocess.run(["e2fsck", "-f", "-n", inner], capture_output=True).returncode != 0:
+        faults.append("e2fsck finds faults")
+    rows.note("expand: the file system afterwards", faults)
+    os.remove(inner)
     os.remove(path)
 
 
@@ -131,11 +163,20 @@ def full(rows, folder):
     rows.note("expand: what such a file holds",
               [] if opens_old_data(path, image, size) else ["the old data doesn't open"])
     os.remove(path)
+    with small_disk(rows, folder, 1 << 20) as disk:
+        if disk is None:
+            return
+        path = os.path.join(disk, "full.vc")
+        write(path, image)
+        rows.row("expand: a full disk", expand_words(path, size), 7, left=ANYTHING)
+        rows.note("expand: what is there of a full disk",
+                  [] if opens_old_data(path, image, size) else ["the old data doesn't open"])
 
 
 def check(rows, folder):
     every_algorithm(rows, folder)
     grown_by_hand(rows, folder)
+    file_system(rows, folder)
     refused(rows, folder)
     full(rows, folder)
     killed(rows, folder)
