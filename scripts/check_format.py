@@ -273,6 +273,7 @@ def small_disk(rows, folder, size):
     finally:
         if mounted:
             subprocess.run(["umount", place], check=True)
+        os.rmdir(place)
 
 
 def info(rows, small, folder):
