@@ -173,7 +173,7 @@ static REFUSED: &str = "\
 5;cat|c1.vc|0|1|--password|x|--backup
 2;cat
 2;dog|c1.vc|0|1|--password|x
-6;hide|c1.vc|--size|512|--password|x|--random|@
+5;hide|c1.vc|--size|512|--password|x|--random|@
 2;hide|c1.vc|--size|512|--password|x|--random|@|--sector|513
 2;format|c1.vc|--size|262656|--password|x|--random|@|--sector|0
 5;passwd|c1.vc|--password|x|--new|y|--random|@
