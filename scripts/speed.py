@@ -27,6 +27,8 @@ deciphering  `cat` of 32 MiB with PIM 1, less `cat FILE 0 0`, for each cipher an
              by block; for AES also against OpenSSL's XTS over units of 512 bytes, with and without
              the processor's AES instructions. AES's baseline is the one without them, and that of
              the cascade is the three baselines' times added
+threads      by the clock, on an idle machine: `cat` of 256 MiB with AES to nowhere, less `cat FILE 0 0`,
+             against the same on one of the processors
 enciphering  data units in memory, by a program of its own (probe.py), against deciphering them
 
 It judges nothing: the status is 0, but 77 where the package `cryptography` is missing. A baseline
@@ -137,6 +139,37 @@ def racing(program, folder):
     print(f"racing: a wrong password {wrong:.3f} s by the clock")
     print(f"  its processor time {alone:.3f} s, ratio {wrong / alone:.2f} (at most 0.30 on four processors, 0.55 on two)")
     print(f"  hashlib's four derivations {theirs:.3f} s, ratio {wrong / theirs:.2f}")
+
+
+def discarding_time(words, processors):
+    """Seconds by the clock on these processors, of a program whose output nobody reads."""
+    begin = time.monotonic()
+    run = subprocess.run(words, stdin=subprocess.DEVNULL, stdout=subprocess.DEVNULL,
+                         preexec_fn=lambda: os.sched_setaffinity(0, processors))
+    if run.returncode != 0:
+        sys.exit(f"status {run.returncode}: {' '.join(words)}")
+    return time.monotonic() - begin
+
+
+def threads(program, folder):
+    path = os.path.join(folder, "threads.vc")
+    size = FORMAT_MIB << 20
+    words = [path, "--password", PASSWORD, "--pim", "1"]
+    subprocess.run([program, "format", *words, "--size", str(2 * GROUP + size), "--random", "0f" * 32], check=True,
+                   stdout=subprocess.DEVNULL)
+    every = os.sched_getaffinity(0)
+    one = {min(every)}
+    whole = [program, "cat", words[0], "0", str(size // SECTOR), *words[1:]]
+    none = [program, "cat", words[0], "0", "0", *words[1:]]
+    by_all, by_one, none_by_all, none_by_one = best(
+        LONG_TURNS,
+        lambda: discarding_time(whole, every),
+        lambda: discarding_time(whole, one),
+        lambda: discarding_time(none, every),
+        lambda: discarding_time(none, one))
+    rate, alone = (size / seconds / 1e6 for seconds in (by_all - none_by_all, by_one - none_by_one))
+    print(f"threads: {rate:.0f} MB/s on {len(every)} processors")
+    compare("on one processor (at least 2.5 on four)", rate, alone)
 
 
 def formatting(program, folder):
@@ -312,6 +345,7 @@ MEASURES = {
     "racing": racing,
     "formatting": formatting,
     "deciphering": deciphering,
+    "threads": threads,
     "enciphering": enciphering,
 }
 

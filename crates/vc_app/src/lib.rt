@@ -4,7 +4,7 @@
 //! `format` makes a container, `hide` gives it a hidden volume, `info` shows a header, `cat` writes sectors of
 //! the plain volume, `passwd` gives a volume another password, `restore` writes a header from its backup, and
 //! `expand` makes a container longer.
-//! Everything streams: a call holds one buffer of 64 KiB, whatever the container's size.
+//! Everything streams: a call holds one buffer, of 64 KiB or for `cat` up to 1 MiB, whatever the container's size.
 //!
 //! What a command promises is a record in its own file of specs/, and what a promise means is said once, in
 //! specs/Promise.antt. Each command returns a result of its own; `status` alone turns it into a status.

@@ -1,5 +1,5 @@
 //! `cat`: sectors of the plain volume, deciphered and written.
-ghost use Rattle.std.specs.Prelude.{◌≡◌, ◌≤◌, ◌+◌, ◌*◌, ◌/◌, ◌%◌, ◌^◌, IfSome, IsErrOf, OnOk, length};
+ghost use Rattle.std.specs.Prelude.{◌≡◌, ◌≤◌, ◌+◌, ◌*◌, ◌/◌, ◌%◌, ◌^◌, IfSome, IsErrOf, OnOk, length, min};
 ghost use Rattle.vc_base.specs.Faults.{HasCause};
 ghost use Rattle.cascade_set.specs.Volume.{plain_units};
 ghost use Rattle.kdf_hmac.specs.Pbkdf2.{IsPim};
@@ -18,16 +18,14 @@ use crate::status::Status;
 use cascade_set::{Keyed, Keys};
 use cipher_base::UnitCipher;
 use header_try::{OpenError, Opened};
+use sector_view::decipher_all;
 use std::alloc::Global;
 use std::thread::Threads;
 use vc_layout::DATA_UNIT;
 use vc_outside::{Sink, Store};
 
-/// The data units that the buffer holds.
-const BUFFER_UNITS: u64 = 128;
-
-/// The buffer's length in bytes.
-const BUFFER: usize = 65_536;
+/// The most data units that the buffer holds: 1 MiB, which several threads decipher in parts.
+const BUFFER_UNITS: u64 = 2048;
 
 /// What `cat` is asked: `count` sectors from `first` on, of the volume that is opened.
 #[derive(Drop)]
@@ -95,13 +93,15 @@ pub fn run_cat<R: Threads + Sync, D: Store, O: Sink>(
     if command.first > sectors || command.count > sectors - command.first {
         return Err(CatError::BadSize);
     }
-    let written = write_sectors(disk, out, command, &opened);
+    let written = write_sectors(rt, alloc, disk, out, command, &opened);
     counts.settle(disk, out, written)?;
     Ok(())
 }
 
 // Writes the asked sectors of an opened volume, which has them.
-fn write_sectors<D: Store, O: Sink>(
+fn write_sectors<R: Threads + Sync, D: Store, O: Sink>(
+    rt: &R,
+    alloc: Global,
     disk: &mut D,
     out: &mut O,
     command: &Cat,
@@ -127,7 +127,10 @@ fn write_sectors<D: Store, O: Sink>(
     });
     let unit = opened.fields.start / DATA_UNIT + units_of(command.first, opened.fields.sector);
     let count = units_of(command.count, opened.fields.sector);
-    write_units(disk, out, &keyed, unit, count)
+    let Ok(mut buffer) = vec![in alloc; 0u8; count.min(BUFFER_UNITS) as usize * 512] else {
+        return Err(WorkError::NoMemory);
+    };
+    write_units(rt, disk, out, &keyed, unit, count, &mut buffer)
 }
 
 // The data units that so many sectors have.
@@ -140,14 +143,17 @@ fn units_of(sectors: u64, sector: u32) -> u64
     u64::from(sector) / DATA_UNIT * sectors
 }
 
-// Writes `count` deciphered data units, of which the first has the number `unit`.
-fn write_units<D: Store, O: Sink, C: UnitCipher>(
+// Writes `count` deciphered data units, of which the first has the number `unit`, by way of the buffer.
+fn write_units<R: Threads + Sync, D: Store, O: Sink, C: UnitCipher + Sync>(
+    rt: &R,
     disk: &mut D,
     out: &mut O,
     cipher: &C,
     unit: u64,
     count: u64,
+    buffer: &mut [u8],
 ) -> Result<(), WorkError>
+    requires room { length buffer.old ≡ min count 2048 * 512 }
     requires within { (unit + count) * 512 ≤ D.size disk.old }
     requires small { D.size disk.old ≤ 2 ^ 60 }
     ensures done { OnOk result (IfSome (D.image disk.old) (λ b.
@@ -161,13 +167,12 @@ fn write_units<D: Store, O: Sink, C: UnitCipher>(
     ensures crash { LeavesNoMore (seen ⟦<D as Store>⟧ ⟦<O as Sink>⟧ disk.old out.old)
         (seen ⟦<D as Store>⟧ ⟦<O as Sink>⟧ disk.new out.new) }
 {
-    let mut buffer = [0u8; BUFFER];
     let mut at = unit;
     let mut left = count;
     'parts: while left > 0 {
         let part = left.min(BUFFER_UNITS);
         let bytes = &mut buffer[..part as usize * 512];
-        write_part(disk, out, cipher, at, bytes)?;
+        write_part(rt, disk, out, cipher, at, bytes)?;
         at += part;
         left -= part;
     }
@@ -175,7 +180,8 @@ fn write_units<D: Store, O: Sink, C: UnitCipher>(
 }
 
 // Fills the bytes with data units, of which the first has the number `unit`, deciphers and writes them.
-fn write_part<D: Store, O: Sink, C: UnitCipher>(
+fn write_part<R: Threads + Sync, D: Store, O: Sink, C: UnitCipher + Sync>(
+    rt: &R,
     disk: &mut D,
     out: &mut O,
     cipher: &C,
@@ -201,6 +207,6 @@ fn write_part<D: Store, O: Sink, C: UnitCipher>(
     let Ok(()) = disk.read_at(unit * DATA_UNIT, bytes) else {
         return Err(WorkError::DiskFault);
     };
-    cipher.decipher_units(unit, bytes);
+    decipher_all(rt, cipher, unit, bytes);
     write_all(out, bytes)
 }

@@ -12,12 +12,12 @@ use std::test::Fail;
 use vc_header::{Fields, write_plain};
 use vc_outside::SureStore;
 
-// The small container has one sector. The long one is read in three parts, of 128, 128 and 44 sectors.
+// The small container has one sector. The long one is read in three parts, of 2048, 2048 and 44 sectors.
 const SMALL: usize = 512;
 
-const LONG: usize = 300 * 512;
+const LONG: usize = 4_140 * 512;
 
-static CAT_ALL: &str = "cat|c1.vc|0|300|--password|correct horse|--pim|1";
+static CAT_ALL: &str = "cat|c1.vc|0|4140|--password|correct horse|--pim|1";
 
 // The volume's byte i: 00 to ff, twice, in sector 0, and no two sectors beside each other are the same.
 fn plain_byte(i: usize) -> u8 {
@@ -35,7 +35,7 @@ fn is_prefix(bytes: &[u8]) -> bool {
 // A container with a volume of so many bytes, password `correct horse`, PIM 1, a salt of zeros and the
 // master keys 00 to 3f.
 fn container<R: Abort + AllocGlobal>(rt: &R, volume: usize) -> Result<Vec<u8>, AllocError>
-    requires { volume ≤ 1000000 }
+    requires { volume ≤ 3000000 }
 {
     let mut material = [0u8; 192];
     for i in 0..64 {
@@ -129,18 +129,18 @@ fn small_container_by_rows(rt: HostRuntime) -> Result<(), Fail> {
 }
 
 // Status, bytes written, faults counted, the read that is missed, and how. The reads 0 and 1 are those of the two
-// headers, before any key is derived; then come 128, 128 and 44 sectors.
+// headers, before any key is derived; then come 2048, 2048 and 44 sectors.
 static MISSED_READS: &str = "\
 7;0;1;0;fails
 7;0;1;1;fails
 7;0;1;2;fails
-7;65536;1;3;fails
-7;131072;1;4;fails
-0;153600;0;5;fails
-7;153600;1;0;recovers
-7;153600;1;1;recovers
-7;153600;1;3;recovers
-7;153600;1;4;recovers";
+7;1048576;1;3;fails
+7;2097152;1;4;fails
+0;2119680;0;5;fails
+7;2119680;1;0;recovers
+7;2119680;1;1;recovers
+7;2119680;1;3;recovers
+7;2119680;1;4;recovers";
 
 #[test]
 fn a_missed_read_is_a_container_fault(rt: HostRuntime) -> Result<(), Fail> {
@@ -158,22 +158,22 @@ fn a_missed_read_is_a_container_fault(rt: HostRuntime) -> Result<(), Fail> {
 
 // Status, bytes written, faults counted, and how the sink takes its pieces.
 static SLOW_SINKS: &str = "\
-0;153600;0;pieces;1
-0;153600;0;pieces;7
+0;2119680;0;pieces;1
+0;2119680;0;pieces;7
 8;0;1;pieces;0
 8;1;1;full;1
-8;65535;1;full;65535
-8;65536;1;full;65536
-8;153599;1;full;153599
-0;153600;0;full;153600
+8;1048575;1;full;1048575
+8;1048576;1;full;1048576
+8;2119679;1;full;2119679
+0;2119680;0;full;2119680
 8;0;1;fails;0
-8;65536;1;fails;1
-8;131072;1;fails;2
-0;153600;0;fails;3
+8;1048576;1;fails;1
+8;2097152;1;fails;2
+0;2119680;0;fails;3
 9;0;0;memory;0
-9;131072;0;memory;2
-8;153600;3;recovers;0
-8;131072;2;recovers, memory;2";
+9;2097152;0;memory;2
+8;2119680;3;recovers;0
+8;2097152;2;recovers, memory;2";
 
 #[test]
 fn a_sink_takes_what_it_can(rt: HostRuntime) -> Result<(), Fail> {

@@ -1,17 +1,18 @@
-use Rattle.std.proofs.Common.{ℕ, ◌/◌, ◌*◌, ◌≡◌, ◌≤◌, List, arith, refl, length, take, length-take, ◌∙◌}
+use Rattle.std.proofs.Common.{ℕ, ◌/◌, ◌*◌, ◌≡◌, ◌≤◌, List, arith, min, refl, length, take, length-take, ◌∙◌}
 use Rattle.cascade_set.specs.Volume.{plain_units}
 use Rattle.vc_outside.proofs.NothingMore.{nothing_more, nothing_more_twice}
 use Rattle.vc_app.proofs.Parts.{written_none, written_more, stopped, written_all, front_told}
 use Rattle.vc_app.proofs.commands.cat.write_units.Goals as goal
 
 -- the units of a part of the buffer
-part_length : (n : ℕ) (buffer : List ℕ) → length buffer ≡ 65536 → n ≤ 128 → length (take (n * 512) buffer) / 512 ≡ n
-part_length n buffer long fits = let e : length (take (n * 512) buffer) ≡ n * 512 = omega (arith, length-take (n * 512) buffer) in omega arith
+part_length : (n k : ℕ) (buffer : List ℕ) → length buffer ≡ k * 512 → n ≤ k → length (take (n * 512) buffer) / 512 ≡ n
+part_length n k buffer long fits = let e : length (take (n * 512) buffer) ≡ n * 512 = omega (arith, length-take (n * 512) buffer) in omega arith
 
 pub parts-init : goal.parts-init
 parts-init g c = record {
   begun = omega arith;
   end = omega arith;
+  room = c.requires.room;
   written = written_none (g.D.Store.image c.args.disk.now) (g.O.Sink.contents c.args.out.now) (g.C.UnitCipher.deciphered c.args.cipher.now) c.args.unit;
   image = refl;
   size = refl;
@@ -24,11 +25,12 @@ pub parts-preserved : goal.parts-preserved
 parts-preserved g c = record {
   begun = omega (arith, c.parts.invariant.begun);
   end = omega (arith, c.parts.invariant.end, c.min-part.ensures);
+  room = omega (arith, c.parts.invariant.room, c.write_part.auto.bytes);
   written = written_more (g.D.Store.image c.args.disk.now) (g.D.Store.image c.parts.disk)
       (g.O.Sink.contents c.args.out.now) (g.O.Sink.contents c.parts.out) (g.O.Sink.contents c.write_part.new.out)
       (g.C.UnitCipher.deciphered c.args.cipher.now) c.args.unit c.parts.at c.min-part.result _
       c.parts.invariant.begun c.parts.invariant.image
-      (part_length c.min-part.result c.parts.buffer c.min-part.array_long (omega (arith, c.min-part.ensures)))
+      (part_length c.min-part.result (min c.args.count 2048) c.parts.buffer c.parts.invariant.room (omega (arith, c.min-part.ensures, c.parts.invariant.begun, c.parts.invariant.end)))
       c.parts.invariant.written c.in_ok-write_part.ensures.done;
   image = c.write_part.ensures.image ∙ c.parts.invariant.image;
   size = c.write_part.ensures.size ∙ c.parts.invariant.size;
@@ -45,7 +47,7 @@ returns-in_err-write_part-clause-front g c =
     (g.O.Sink.contents c.args.out.now) (g.O.Sink.contents c.parts.out) (g.O.Sink.contents c.write_part.new.out)
     (g.C.UnitCipher.deciphered c.args.cipher.now) c.args.unit c.parts.at c.min-part.result _ c.parts.left c.args.count
     c.parts.invariant.begun (omega (arith, c.min-part.ensures)) c.parts.invariant.end c.parts.invariant.image
-    (part_length c.min-part.result c.parts.buffer c.min-part.array_long (omega (arith, c.min-part.ensures)))
+    (part_length c.min-part.result (min c.args.count 2048) c.parts.buffer c.parts.invariant.room (omega (arith, c.min-part.ensures, c.parts.invariant.begun, c.parts.invariant.end)))
     c.parts.invariant.written c.write_part.ensures.front
 
 pub returns-clause-done : goal.returns-clause-done

@@ -1,6 +1,6 @@
 -- The units before `at` were written.
-use Rattle.std.proofs.Common.{◌≡◌, ◌≤◌, ◌+◌, ◌-◌}
-use Rattle.std.specs.Prelude.{IfSome}
+use Rattle.std.proofs.Common.{◌≡◌, ◌≤◌, ◌+◌, ◌-◌, ◌*◌}
+use Rattle.std.specs.Prelude.{IfSome, length, min}
 use Rattle.vc_outside.specs.Told.{Grows}
 use Rattle.cascade_set.specs.Volume.{plain_units}
 use Rattle.vc_app.specs.Promise.{LeavesNoMore, seen}
@@ -10,6 +10,7 @@ abbrev pub invariant-parts : goal.invariant-parts
 invariant-parts g l = record {
   begun : l.fn.unit ≤ l.at;
   end : l.at + l.left ≡ l.fn.unit + l.fn.count;
+  room : length l.buffer ≡ min l.fn.count 2048 * 512;
   written : IfSome (g.D.Store.image l.fn.disk) (λ b.
       Grows (g.O.Sink.contents l.fn.out) (g.O.Sink.contents l.out)
       (plain_units (g.C.UnitCipher.deciphered l.cipher) b l.fn.unit (l.at - l.fn.unit)));
