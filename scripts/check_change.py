@@ -17,6 +17,9 @@ from program_rows import PASSWORD, nobody
 NEW_PASSWORD = "new horse"
 NEW_KEY = bytes(range(0x40, 0x60))
 
+# What a file system gives room by.
+PAGE = 4096
+
 # How a volume is named, its password and the place of its header.
 VOLUMES = [(("--kind", "standard"), PASSWORD, 0), (("--kind", "hidden"), HIDDEN_PASSWORD, GROUP // 2),
            ((), PASSWORD, 0), (("--backup",), HIDDEN_PASSWORD, GROUP // 2)]
@@ -121,8 +124,9 @@ def same_password(rows, folder):
 
 
 def places(rows, folder):
-    """Headers are written in place, so neither a full disk nor a folder that can't be written is in the way. A file
-    that can't be written is: then the status is 7, and the old password opens the backup header at least."""
+    """Headers are written in place, so neither a full disk nor a folder that can't be written is in the way, unless the
+    file has a hole there. A file that can't be written is: then the status is 7, and the old password opens the backup
+    header at least."""
     image = container()
     new = changed(image, 0, PASSWORD, 1, NEW_KEY, new_password=NEW_PASSWORD, new_pim=1, new_prf="sha512")
     path = os.path.join(folder, "limited.vc")
@@ -141,6 +145,14 @@ def places(rows, folder):
         write(path, image)
         fill(os.path.join(disk, "filler"))
         rows.row("passwd: a full disk", to_new(path), 0, b"ok\n", left=new)
+        os.remove(os.path.join(disk, "filler"))
+        hole = b"\0" * PAGE + image[PAGE:]
+        with open(path, "wb") as file:
+            file.seek(PAGE)
+            file.write(hole[PAGE:])
+        fill(os.path.join(disk, "filler"))
+        rows.row("restore: a full disk, and a hole in place of the primary header",
+                 restore_words(path, PASSWORD, NEW_KEY), 7, left=hole)
         os.remove(os.path.join(disk, "filler"))
         write(path, image)
         os.chmod(path, 0o666)
