@@ -13,7 +13,7 @@ use header_try::{Kind, OpenError, Opened};
 use kdf_hmac::Password;
 use std::alloc::Global;
 use std::thread::Threads;
-use vc_outside::{NoGate, Store};
+use vc_outside::{Gate, NoGate, Store};
 
 /// How many workers share the derivations of an opening. No kind has more derivations.
 const WORKERS: u32 = 4;
@@ -27,7 +27,7 @@ pub struct Access {
 }
 
 impl Access {
-    /// Opens the header. Its derivations run side by side; being out of memory for them hides no fault of a read.
+    /// Opens the header by four workers.
     pub fn open<R: Threads + Sync, D: Store>(
         &self,
         rt: &R,
@@ -35,6 +35,33 @@ impl Access {
         disk: &mut D,
     ) -> Result<Opened, OpenError>
         requires { IsPim self.now.pim }
+        ensures opened { IfOk result (λ o. IfSome (D.image disk.old) (λ b. opened self.now b ≡ Some o)) }
+        ensures unopened { Unopened self.now result (D.image disk.old) (D.size disk.old)
+            (D.faults disk.old) (D.faults disk.new) }
+        ensures in_range { OnOk result (IsContainerLength (D.size disk.old)) }
+        ensures later { D.faults disk.old ≤ D.faults disk.new }
+        ensures slot { IfOk result (λ o. Contains (slots_of self.now.kind) o.slot) }
+        ensures meets { IfOk result (λ o. Meets o.fields o.slot (D.size disk.old)) }
+        ensures image { D.image disk.new ≡ D.image disk.old }
+        ensures size { D.size disk.new ≡ D.size disk.old }
+        ensures crash { Outcomes D.tells (D.moment disk.old) (D.moment disk.new) (D.left_since disk.old)
+            (D.left_since disk.new) (D.may_leave disk.old) (D.may_leave disk.new) Stays }
+    {
+        self.open_by(rt, alloc, disk, WORKERS, &NoGate)
+    }
+
+    /// Opens the header. Its derivations run side by side on so many workers, which pass the points of `header_race` at
+    /// the gate; being out of memory for them hides no fault of a read.
+    pub fn open_by<R: Threads + Sync, D: Store, G: Gate>(
+        &self,
+        rt: &R,
+        alloc: Global,
+        disk: &mut D,
+        workers: u32,
+        gate: &G,
+    ) -> Result<Opened, OpenError>
+        requires pim { IsPim self.now.pim }
+        requires workers { (1 ≤ workers) × (workers ≤ 8) }
         ensures opened { IfOk result (λ o. IfSome (D.image disk.old) (λ b. opened self.now b ≡ Some o)) }
         ensures unopened { Unopened self.now result (D.image disk.old) (D.size disk.old)
             (D.faults disk.old) (D.faults disk.new) }
@@ -55,8 +82,8 @@ impl Access {
             &self.password,
             self.pim,
             self.kind,
-            WORKERS,
-            &NoGate,
+            workers,
+            gate,
         );
         match opened {
             Err(OpenError::NoMemory) if disk.faults() != faults => Err(OpenError::ReadFault),
