@@ -2,7 +2,7 @@
 ghost use Rattle.std.specs.Prelude.{◌≡◌, ◌<◌, ◌≤◌, ◌*◌, ◌^◌, false, length, List};
 ghost use Rattle.hist_lock.specs.Known.{view};
 ghost use Rattle.io_queue.specs.Pass.{Call, IsPass, NothingOpen};
-ghost use Rattle.nbd_session.specs.Laws.Outcomes.{data_of, read_outcome, write_outcome};
+ghost use Rattle.nbd_session.specs.Laws.Outcomes.{data_of, outcome_of};
 ghost use Rattle.nbd_session.specs.Session.{events_of};
 ghost use Rattle.nbd_wire.specs.Replies.{FlushLeaves, ReadLeaves, WriteLeaves};
 ghost use Rattle.sector_model.specs.declared.entry.Entry.{Entry};
@@ -40,7 +40,7 @@ pub(crate) fn read_sectors<R: Threads + Wait + Sync, S: Store, C: UnitCipher + S
         × ReadLeaves volume.now.geometry.sector first count result (events_of es) (data_of result out.new) }
 {
     let _ = count;
-    outcome_of(volume.read(rt, pass, first, out))
+    outcome_of(volume.read(rt, pass, first, out), Outcome::ReadBeyond)
 }
 
 // Writes `count` sectors, without a flush.
@@ -67,7 +67,10 @@ pub(crate) fn write_sectors<R: Threads + Wait + Sync, S: Store, C: UnitCipher, G
         × WriteLeaves first count false payload.items result (events_of es) }
 {
     let _ = count;
-    written_outcome(volume.write(rt, alloc, pass, gate, first, payload))
+    outcome_of(
+        volume.write(rt, alloc, pass, gate, first, payload),
+        Outcome::WriteBeyond,
+    )
 }
 
 // Writes `count` sectors. With `fua` a flush follows if they are stored.
@@ -104,20 +107,6 @@ pub(crate) fn write_request<R: Threads + Wait + Sync, S: Store, C: UnitCipher, G
     flush_volume(rt, volume, pass)
 }
 
-// The outcome of a write.
-fn written_outcome(answer: Result<(), IoError>) -> Outcome
-    ensures { result ≡ write_outcome answer }
-{
-    match answer {
-        Ok(()) => Outcome::Done,
-        Err(IoError::Range) => Outcome::WriteBeyond,
-        Err(IoError::Denied) => Outcome::Denied,
-        Err(IoError::Frozen) => Outcome::Frozen,
-        Err(IoError::Fault(_)) => Outcome::Fault,
-        Err(IoError::NoMemory) => Outcome::NoMemory,
-    }
-}
-
 // Flushes the volume.
 pub(crate) fn flush_volume<R: Threads + Wait + Sync, S: Store, C: UnitCipher>(
     rt: &R,
@@ -130,16 +119,16 @@ pub(crate) fn flush_volume<R: Threads + Wait + Sync, S: Store, C: UnitCipher>(
     ensures open { NothingOpen (view pass.new.seat) }
     ensures call { (es : List Entry) × Call (view pass.old.seat) (view pass.new.seat) es × FlushLeaves result (events_of es) }
 {
-    outcome_of(volume.flush(rt, pass))
+    outcome_of(volume.flush(rt, pass), Outcome::ReadBeyond)
 }
 
-// The outcome of a read or flush.
-fn outcome_of(answer: Result<(), IoError>) -> Outcome
-    ensures { result ≡ read_outcome answer }
+// The outcome of a call by what it returned. `beyond` is that of one past the volume's end.
+fn outcome_of(answer: Result<(), IoError>, beyond: Outcome) -> Outcome
+    ensures { result ≡ outcome_of beyond answer }
 {
     match answer {
         Ok(()) => Outcome::Done,
-        Err(IoError::Range) => Outcome::ReadBeyond,
+        Err(IoError::Range) => beyond,
         Err(IoError::Denied) => Outcome::Denied,
         Err(IoError::Frozen) => Outcome::Frozen,
         Err(IoError::Fault(_)) => Outcome::Fault,

@@ -15,7 +15,7 @@ pub returns-clause-call : goal.returns-clause-call
 returns-clause-call g c = (
   c.write.ensures.call.0,
   c.write.ensures.call.1,
-  subst (λ (o : Outcome). WriteLeaves c.args.first c.args.count false c.args.payload.items o (events_of c.write.ensures.call.0)) (sym c.written_outcome.ensures)
+  subst (λ (o : Outcome). WriteLeaves c.args.first c.args.count false c.args.payload.items o (events_of c.write.ensures.call.0)) (sym c.outcome_of.ensures)
       (write_leaves (shape c.args.volume.now.geometry) (view c.args.pass.now.seat).number c.args.first c.args.count c.args.payload.items c.write.result
       c.write.ensures.call.0 c.write.ensures.call.2
       (count_of c.args.volume.now.geometry.sector c.args.count (length c.args.payload.items) c.requires.sector c.requires.whole)),
