@@ -1,5 +1,5 @@
 -- What a request did, from what its volume's call left and what was written of its reply.
-use Rattle.std.proofs.Common.{◌≡◌, ◌≤◌, ◌<◌, ℕ, ◌+◌, ◌-◌, ◌==◌, Bool, true, false, List, [], ◌++◌, length, take, drop, Option, Some, None, IfSome, inl, inr, refl, sym, ap, ◌∙◌, subst, arith}
+use Rattle.std.proofs.Common.{◌≡◌, ℕ, ◌==◌, false, List, [], ◌++◌, length, Option, Some, None, IfSome, refl, sym, ap, ◌∙◌, subst}
 use Rattle.std.specs.Prelude.{option_map, IsNone}
 use Rattle.std.proofs.lemmas.Bool.{false≢true}
 use Rattle.std.proofs.lemmas.List.{append-nil}
@@ -13,7 +13,6 @@ use Rattle.nbd_wire.specs.Replies.{error_of, Leaves}
 use Rattle.nbd_wire.specs.Wire.{reply}
 use Rattle.nbd_wire.specs.declared.ask.Ask.{Ask}
 use Rattle.nbd_wire.specs.declared.end.End.{End}
-use Rattle.nbd_wire.specs.declared.end.End.TheVariants as end
 use Rattle.nbd_wire.specs.declared.reply.Outcome.{Outcome}
 use Rattle.nbd_wire.specs.declared.request.Request.{Request}
 use Rattle.sector_model.specs.declared.entry.Entry.{Entry}
@@ -21,8 +20,8 @@ use Rattle.nbd_session.specs.Session.{events_of, Serves}
 use Rattle.nbd_session.specs.Laws.Acts.{Acts}
 use Rattle.nbd_session.specs.Laws.Sent.{Replied}
 use Rattle.nbd_session.specs.Laws.Onward.{Answers, NoRequest}
-use Rattle.nbd_session.specs.Laws.Taken.{CutsPayload, TakesHead, TakesPayload}
-use Rattle.nbd_session.proofs.HeadAndPayload.{answered_request, cut_request, disconnects, failed_reply}
+use Rattle.nbd_session.specs.Laws.Taken.{TakesHead, TakesPayload}
+use Rattle.nbd_session.proofs.HeadAndPayload.{answered_request, failed_reply}
 use Rattle.nbd_session.proofs.RequestByRequest.{serves_none}
 
 module _ {S C : Type 0} (sector : ℕ) (r : Request) (payload : List ℕ) (v w : View (State S C) Entry) (held now : Option (List ℕ)) (how : Option End) where

@@ -1,5 +1,5 @@
 -- The buffer of a read: 16 bytes for the reply, and then the data.
-use Rattle.std.proofs.Common.{◌≡◌, ◌≤◌, ℕ, ◌+◌, ◌-◌, List, [], ◌++◌, length, length-append, take, drop, refl, sym, ap, ◌∙◌, arith}
+use Rattle.std.proofs.Common.{◌≡◌, ◌≤◌, ℕ, ◌+◌, ◌-◌, List, [], ◌++◌, length, length-append, take, drop, refl, ap, ◌∙◌, arith}
 use Rattle.std.proofs.lemmas.List.{append-nil, drop_all, drop_at, length-drop, length-take, length-take-le}
 use borrow.Rule.Slice.PartMut.{put_mid}
 use Rattle.nbd_wire.specs.declared.reply.Outcome.{Outcome}

@@ -1,5 +1,5 @@
 //! The answer to one request: the volume's call, and the reply.
-ghost use Rattle.std.specs.Prelude.{◌≡◌, ◌≢◌, ◌<◌, ◌+◌, ◌^◌, ℕ, length, IfSome, List, Some};
+ghost use Rattle.std.specs.Prelude.{◌≡◌, ◌≢◌, ◌+◌, ℕ, length, IfSome, List, Some};
 ghost use Rattle.hist_lock.specs.Known.{view};
 ghost use Rattle.io_queue.specs.Pass.{IsPass, NothingOpen};
 ghost use Rattle.nbd_session.specs.Laws.Acts.{Acts, IsRange};
@@ -43,7 +43,8 @@ pub(crate) fn answer<R: Threads + Wait + Sync, S: Store, C: UnitCipher + Sync, O
         (view pass.old.seat) (view pass.new.seat) (O.contents sink.old) (O.contents sink.new) result }
     ensures cause { HasCause (O.faults sink.old) (O.faults sink.new) (result ≡ Some End.WriteFault) }
 {
-    fits(request.offset);
+    // Proofs know the range of what is read: an offset is below 2^64.
+    let _offset = request.offset;
     match ask {
         Ask::Read { first, count } => {
             answer_read(rt, alloc, volume, pass, sink, request, first, count)
@@ -57,13 +58,6 @@ pub(crate) fn answer<R: Threads + Wait + Sync, S: Store, C: UnitCipher + Sync, O
         Ask::Malformed => reply_alone(sink, request, Outcome::Malformed),
         Ask::Disconnect => unreachable!(),
     }
-}
-
-// An offset is below 2^64.
-fn fits(offset: u64)
-    ensures { offset < 2 ^ 64 }
-{
-    let _ = offset;
 }
 
 // Answers a read. The data are read to where the reply takes them from.

@@ -1,4 +1,4 @@
-use Rattle.std.proofs.Common.{[], refl, ◌∙◌}
+use Rattle.std.proofs.Common.{[], refl, ◌∙◌, arith}
 use Rattle.hist_lock.specs.Known.{view}
 use Rattle.io_queue.proofs.Passes.{no_call}
 use Rattle.nbd_wire.specs.declared.ask.Ask.TheVariants as ask
@@ -12,7 +12,7 @@ answer_read-requires-clause-asked g c κs within = c.requires.asked ∙ c.in-Rea
 
 pub answer_read-requires-clause-range : goal.answer_read-requires-clause-range
 answer_read-requires-clause-range g c κs within =
-    read_range c.args.volume.now.geometry.sector c.args.request.now c.requires.sector c.fits.ensures c.in-Read.first c.in-Read.count
+    read_range c.args.volume.now.geometry.sector c.args.request.now c.requires.sector (omega arith) c.in-Read.first c.in-Read.count
     (c.requires.asked ∙ c.in-Read.is)
 
 pub answer_write-requires-clause-asked : goal.answer_write-requires-clause-asked
@@ -20,7 +20,7 @@ answer_write-requires-clause-asked g c κs within = c.requires.asked ∙ c.in-Wr
 
 pub answer_write-requires-clause-range : goal.answer_write-requires-clause-range
 answer_write-requires-clause-range g c κs within =
-    write_range c.args.volume.now.geometry.sector c.args.request.now c.requires.sector c.fits.ensures c.in-Write.first c.in-Write.count c.in-Write.fua
+    write_range c.args.volume.now.geometry.sector c.args.request.now c.requires.sector (omega arith) c.in-Write.first c.in-Write.count c.in-Write.fua
     (c.requires.asked ∙ c.in-Write.is)
 
 pub answer_flush-requires-clause-asked : goal.answer_flush-requires-clause-asked

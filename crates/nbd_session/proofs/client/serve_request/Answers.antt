@@ -1,11 +1,11 @@
-use Rattle.std.proofs.Common.{◌≡◌, ◌==◌, ℕ, false, refl, sym, ap, ◌∙◌, arith}
+use Rattle.std.proofs.Common.{◌≡◌, ◌==◌, ℕ, false, sym, ap, ◌∙◌}
 use Rattle.std.proofs.lemmas.Bool.{false≢true}
 use Rattle.hist_lock.specs.Known.{view}
 use Rattle.nbd_wire.specs.Classes.{asked}
 use Rattle.nbd_wire.specs.declared.ask.Ask.TheVariants as ask
 use Rattle.nbd_wire.specs.declared.end.End.TheVariants as end
 use Rattle.vc_layout.specs.declared.geometry.Geometry.{Geometry}
-use Rattle.nbd_session.proofs.Acted.{goes_on, kept_is, kept_size, nothing_done, stops}
+use Rattle.nbd_session.proofs.Acted.{goes_on, kept_is, nothing_done, stops}
 use Rattle.nbd_session.proofs.Asked.{disconnect_is, disconnect_isnt}
 use Rattle.nbd_session.proofs.CallByCall.{acts_no_read, cut_no_write, other_cause, quiet, same_cause}
 use Rattle.nbd_session.proofs.HeadAndPayload.{cut_request, disconnects}
