@@ -1,6 +1,8 @@
 //! What a session takes of its source, by hand from `docs/PROTOCOL.md`, "How a session ends".
 ghost use Rattle.std.specs.Prelude.{◌≤◌};
 
+mod served;
+
 use crate::head::next_request;
 use crate::payload::take_payload;
 use nbd_wire::{End, Request};
