@@ -2,3 +2,5 @@
 pub mod Acts
 -- the open writes of a pass, and the admission of one
 pub mod Opens
+-- a pass between two requests
+pub mod Idle

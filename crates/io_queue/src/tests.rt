@@ -4,6 +4,11 @@ ghost use Rattle.hist_lock.specs.Known.{view};
 ghost use Rattle.sector_view.specs.Laws.Turned.{is_block_turned, turned_back};
 ghost use Rattle.io_queue.specs.Pass.{IsPass, NothingOpen};
 
+mod histories;
+mod orders;
+mod requests;
+mod threads;
+
 use crate::{IoError, Volume};
 use cipher_base::{BlockCipher, UnitCipher, Xts};
 use hist_lock::Pass;
@@ -14,7 +19,7 @@ use std::sync::Wait;
 use std::test::Fail;
 use std::thread::Threads;
 use vc_layout::Geometry;
-use vc_outside::{NoGate, Store, SureStore};
+use vc_outside::{Gate, NoGate, Store, SureStore};
 
 // A cipher that turns a block round. Under XTS a unit then depends on its number too.
 #[derive(Clone, Copy)]
@@ -50,11 +55,12 @@ const SMALL: Geometry = Geometry {
 };
 
 // Writes this byte to `count` sectors from `first` on.
-fn put<S: Store, C: UnitCipher, R: Threads + Wait + Sync>(
+fn put<S: Store, C: UnitCipher, R: Threads + Wait + Sync, G: Gate>(
     rt: &R,
     alloc: Global,
     volume: &Volume<S, C>,
     pass: &mut Pass<Core<S, C>>,
+    gate: &G,
     first: u64,
     count: usize,
     byte: u8,
@@ -71,7 +77,7 @@ fn put<S: Store, C: UnitCipher, R: Threads + Wait + Sync>(
     let Ok(bytes) = vec![in alloc; byte; 512 * count] else {
         return Err(IoError::NoMemory);
     };
-    volume.write(rt, alloc, pass, &NoGate, first, bytes)
+    volume.write(rt, alloc, pass, gate, first, bytes)
 }
 
 #[test]
@@ -124,7 +130,16 @@ fn a_denied_write_freezes_a_volume(rt: HostRuntime) -> Result<(), Fail> {
         ("past the end, after that", 4, 1, 6, Err(IoError::Range)),
     ];
     for (case, first, count, byte, want) in cases {
-        let result = put(&rt, rt.alloc(), &volume, &mut pass, first, count, byte);
+        let result = put(
+            &rt,
+            rt.alloc(),
+            &volume,
+            &mut pass,
+            &NoGate,
+            first,
+            count,
+            byte,
+        );
         assert_eq!(rt; result, want, "{case}");
     }
     Ok(())
