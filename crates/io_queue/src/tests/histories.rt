@@ -76,7 +76,8 @@ fn random_requests(
     Ok(requests)
 }
 
-// Lets threads make random requests over a store of which two calls may fail. Returns whether all is right.
+// Lets threads make random requests over a store of which two calls may fail. Returns whether one order explains
+// what came of it, and each failed call is the Fault of one request.
 fn random_run<R: Threads + Wait + Sync>(
     rt: &R,
     alloc: Global,
@@ -95,9 +96,12 @@ fn random_run<R: Threads + Wait + Sync>(
         }
     }
     let protects = numbers.next() < 4;
-    let Ok(fails) = vec![in alloc; u64::from(numbers.next()); 1] else {
-        return Err("no memory");
-    };
+    let mut fails = Vec::new(alloc);
+    for _ in 0..2 {
+        if fails.push(u64::from(numbers.next())).is_err() {
+            return Err("no memory");
+        }
+    }
     let outcome = run(rt, alloc, &NoGate, lists, fails, protects)?;
     let Ok(explained) = is_explained(alloc, &outcome.threads, protects, &outcome.bytes) else {
         return Err("no memory");
@@ -230,13 +234,13 @@ fn a_failed_call_is_the_fault_of_its_own_request(rt: HostRuntime) -> Result<(), 
 
 #[test]
 fn random_requests_of_two_threads_are_one_order(rt: HostRuntime) -> Result<(), Fail> {
-    assert_eq!(rt; first_wrong(&rt, rt.alloc(), 1000, 2, 2)?, None);
+    assert_eq!(rt; first_wrong(&rt, rt.alloc(), 1000, 2, 4)?, None);
     Ok(())
 }
 
 #[test]
 fn random_requests_of_four_threads_are_one_order(rt: HostRuntime) -> Result<(), Fail> {
-    assert_eq!(rt; first_wrong(&rt, rt.alloc(), 200, 4, 2)?, None);
+    assert_eq!(rt; first_wrong(&rt, rt.alloc(), 1000, 4, 2)?, None);
     Ok(())
 }
 

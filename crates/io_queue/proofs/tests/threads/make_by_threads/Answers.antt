@@ -14,9 +14,12 @@ of_last P xs ys r x is some all = subst (λ o. IfSome o P) some (All-pop P xs ys
 pub loop-requests-preserved : goal.loop-requests-preserved
 loop-requests-preserved g c =
     let P : Client → Type 0 = λ t. IsIdle c.args.volume.now.lock.table.shared.table_id c.args.volume.now.geometry c.args.volume.now.cipher t.pass.seat in
-    let made = c.new_client-client.ensures in
-    (made.pass, made.open, All-same P _ _ c.push_reserved.ensures.items
-        (All-push P _ _ (All-same P _ _ c.reserve.ensures.items c.loop-requests.invariant.2) made.idle))
+    let made = c.new_client-client.ensures in (
+      made.pass,
+      made.open,
+      All-same P _ _ c.push_reserved.ensures.items
+          (All-push P _ _ (All-same P _ _ c.reserve.ensures.items c.loop-requests.invariant.2) made.idle),
+    )
 
 pub join-requires-clause-other : goal.join-requires-clause-other
 join-requires-clause-other g c =
