@@ -1,0 +1,56 @@
+-- What a server did for its clients, each under a number of its own.
+--
+-- IsServed .. before after how n caller   one client: its session, whose entries are under this number, and what failed
+-- AreServed ..                            all clients, in order: as clients before and after, ends, counts of replies and
+--                                         numbers; lists of different lengths belong to no clients
+-- AreNew given callers                    no two of the numbers are the same, and each is at least `given`
+-- SameFraction v w                        they have the same share, also if its two numbers differ
+-- IsBack v w                              the pass v, once all that was split from it is joined again
+-- Gained callers v w                      w lists more passes that ended in it; those that aren't callers have no entries
+use Rattle.std.specs.Prelude.{◌≡◌, ◌≢◌, ◌≤◌, ℕ, ◌*◌, ◌^◌, List, [], ◌∷◌, ◌++◌, ◌⊎◌, ⊤, All, AllPairs, Contains}
+use Rattle.vc_base.specs.Faults.{HasCause}
+use Rattle.vc_outside.specs.declared.source.Client.{Client}
+use Rattle.vc_outside.specs.declared.source.Source.{Ghosts as SourceGhosts}
+use Rattle.vc_outside.specs.declared.sink.Sink.{Ghosts as SinkGhosts}
+use Rattle.hist_lock.specs.declared.view.View.{View}
+use Rattle.hist_lock.specs.History.{StartsWith, entries}
+use Rattle.sector_model.specs.declared.entry.Entry.{Entry}
+use Rattle.io_queue.specs.Pass.{caller_of}
+use Rattle.nbd_wire.specs.declared.end.End.{End}
+use Rattle.nbd_wire.specs.declared.end.End.TheVariants.{ReadFault, WriteFault}
+use Rattle.nbd_session.specs.Session.{events_of, Serves}
+
+module _ {I O : Type 0} (source : SourceGhosts I) (sink : SinkGhosts O) (sector : ℕ) (h : List Entry) where
+  pub record IsServed (before after : Client I O) (how : End) (n caller : ℕ) : Type 0 where
+    pub served : Serves sector (source.left before.source) (source.left after.source)
+        (sink.contents before.sink) (sink.contents after.sink) (events_of (entries caller_of caller h)) n how
+    pub read_fault : HasCause (source.faults before.source) (source.faults after.source) (how ≡ ReadFault)
+    pub write_fault : HasCause (sink.faults before.sink) (sink.faults after.sink) (how ≡ WriteFault)
+
+  abbrev pub AreServed : List (Client I O) → List (Client I O) → List End → List ℕ → List ℕ → Type 0
+  AreServed [] [] [] [] [] = ⊤
+  AreServed (before ∷ bs) (after ∷ xs) (how ∷ hs) (n ∷ ns) (caller ∷ cs) =
+      IsServed before after how n caller × AreServed bs xs hs ns cs
+  AreServed bs xs hs ns cs = ⊥
+
+pub record AreNew (given : ℕ) (callers : List ℕ) : Type 0 where
+  pub apart : AllPairs (λ m n. m ≢ n) callers
+  pub new : All (λ n. given ≤ n) callers
+
+module _ {T E : Type 0} where
+  abbrev pub SameFraction : View T E → View T E → Type 0
+  SameFraction v w = w.part * 2 ^ v.halvings ≡ v.part * 2 ^ w.halvings
+
+  pub record IsBack (v w : View T E) : Type 0 where
+    pub base : w.base ≡ v.base
+    pub number : w.number ≡ v.number
+    pub mine : w.mine ≡ v.mine
+    pub given : v.given ≤ w.given
+    pub share : SameFraction v w
+    pub later : StartsWith w.seen v.seen
+
+module _ {T : Type 0} where
+  pub record Gained (callers : List ℕ) (v w : View T Entry) : Type 0 where
+    pub gained : List ℕ
+    pub under : w.under ≡ v.under ++ gained
+    pub idle : All (λ n. Contains callers n ⊎ (entries caller_of n w.seen ≡ [])) gained

@@ -1,0 +1,74 @@
+//! Serving all clients.
+ghost use Rattle.std.specs.Prelude.{◌≡◌, ◌≤◌, length, IfErr, IfOk};
+ghost use Rattle.hist_lock.specs.History.{SameUnder};
+ghost use Rattle.hist_lock.specs.Known.{numbers_of, view};
+ghost use Rattle.io_queue.specs.Pass.{caller_of, IsPass, NothingOpen};
+ghost use Rattle.vc_layout.specs.Layout.{IsSectorSize};
+ghost use Rattle.vol_server.specs.Served.{AreNew, AreServed, Gained, IsBack};
+
+use crate::join::join_all;
+use crate::run::run_all;
+use crate::served::Served;
+use crate::split::split_all;
+use crate::task::Task;
+use cipher_base::UnitCipher;
+use hist_lock::Pass;
+use io_core::{Core, NoMemory};
+use io_queue::Volume;
+use std::alloc::Global;
+use std::sync::Wait;
+use std::thread::Threads;
+use vc_outside::{Client, Gate, Sink, Source, Store};
+
+/// Serves 1 to 16 clients side by side, each by a session under a pass of its own, and returns once all sessions
+/// have ended. `pass` then has seen all that they did, and has its whole share again. Out of memory, the clients
+/// come back and nothing has changed.
+///
+/// Helpers are to take fragments of writes from the clients' threads. Writes don't hand fragments out yet, so their
+/// number, 0 to 8, has no effect: each client's thread enciphers its own.
+pub fn serve<
+    R: Threads + Wait + Sync,
+    S: Store + Send,
+    C: UnitCipher + Send + Sync,
+    I: Source + Send,
+    O: Sink + Send,
+    G: Gate,
+>(
+    rt: &R,
+    alloc: Global,
+    volume: &Volume<S, C>,
+    pass: &mut Pass<Core<S, C>>,
+    clients: Vec<Client<I, O>>,
+    helpers: u32,
+    gate: &G,
+) -> Result<Served<I, O>, (NoMemory, Vec<Client<I, O>>)>
+    requires pass { IsPass volume.now.lock.table.shared.table_id volume.now.geometry volume.now.cipher pass.old.seat }
+    requires open { NothingOpen (view pass.old.seat) }
+    requires sector { IsSectorSize volume.now.geometry.sector }
+    requires some { 1 ≤ length clients.items }
+    requires few { length clients.items ≤ 16 }
+    requires helpers { helpers ≤ 8 }
+    ensures pass { IsPass volume.now.lock.table.shared.table_id volume.now.geometry volume.now.cipher pass.new.seat }
+    ensures open { NothingOpen (view pass.new.seat) }
+    ensures same { IsBack (view pass.old.seat) (view pass.new.seat) }
+    ensures settled { SameUnder caller_of (numbers_of (view pass.old.seat)) (view pass.new.seat).seen (view pass.old.seat).seen }
+    ensures served { IfOk result (λ s. AreServed ⟦<I as Source>⟧ ⟦<O as Sink>⟧ volume.now.geometry.sector
+        (view pass.new.seat).seen clients.items s.clients.items s.ends.items s.replies.items s.callers.items) }
+    ensures callers { IfOk result (λ s. AreNew (view pass.old.seat).given s.callers.items) }
+    ensures under { IfOk result (λ s. Gained s.callers.items (view pass.old.seat) (view pass.new.seat)) }
+    ensures err { IfErr result (λ e. (e.1 ≡ clients) × (view pass.new.seat ≡ view pass.old.seat)) }
+{
+    let _ = helpers;
+    let count = clients.len();
+    let Ok(mut served) = Served::with_room(alloc, count) else {
+        return Err((NoMemory, clients));
+    };
+    let Ok(mut tasks) = Vec::with_capacity(alloc, count) else {
+        served.destroy_empty();
+        return Err((NoMemory, clients));
+    };
+    split_all(rt, volume, pass, clients, &mut tasks);
+    run_all(rt, alloc, volume, gate, tasks.as_mut_slice());
+    join_all(volume, pass, tasks, &mut served);
+    Ok(served)
+}
