@@ -3,7 +3,7 @@
 -- Once a pass is joined, its number is one of those under which no later join changes an entry. So the entries under it
 -- are its own at the end too. The numbers that the kept pass had before stay settled for the same reason, and the entries
 -- under its own number are always its own.
-use Rattle.std.proofs.Common.{◌≡◌, ℕ, zero, suc, ◌+◌, ◌<◌, ◌≤◌, max, List, [], ◌∷◌, ◌++◌, length, get_or, refl, sym, ap, subst, ◌∙◌, arith, map, All, Contains, append_assoc, append-nil, take, drop}
+use Rattle.std.proofs.Common.{◌≡◌, ℕ, zero, suc, ◌+◌, ◌<◌, max, List, [], ◌∷◌, ◌++◌, length, get_or, refl, sym, ap, subst, ◌∙◌, arith, map, All, Contains, append_assoc, append-nil, take, drop}
 use Rattle.std.proofs.lemmas.List.{get_or-map, length-map, map-append}
 use Rattle.std.proofs.lemmas.List.Elements.{All-drop, All-head, All-nil, All-push, All-same, Contains-append_left, Contains-append_right}
 use Rattle.hist_lock.specs.declared.view.View.{View}

@@ -2,8 +2,7 @@
 --
 -- The pass of a session had no entries before, so its own are those of the session. After the joins the entries under its
 -- number are its own. So a client's entries in the history are what its session did.
-use Rattle.std.proofs.Common.{◌≡◌, ◌≢◌, ℕ, zero, suc, ◌+◌, ◌<◌, ◌≤◌, List, [], ◌∷◌, ◌++◌, length, get_or, ◌⊎◌, inl, refl, sym, ap, subst, ◌∙◌, arith, map, take, All, Contains}
-use Rattle.std.specs.Prelude.{⊤}
+use Rattle.std.proofs.Common.{◌≡◌, ℕ, suc, ◌+◌, ◌<◌, List, [], ◌∷◌, ◌++◌, length, get_or, ◌⊎◌, inl, refl, sym, ap, subst, ◌∙◌, arith, map, take, All, Contains}
 use Rattle.std.specs.List.{AllZip}
 use Rattle.std.proofs.Math.Seq.{take-append_seam}
 use Rattle.std.proofs.lemmas.List.Elements.{All-cons, All-contains_itself, All-head, All-nil, All-tail, All-weaker}
@@ -11,9 +10,8 @@ use Rattle.atomic_table.specs.Seated.{TableId}
 use Rattle.hist_standing.specs.declared.Standing.{Ghosts as StandingGhosts}
 use Rattle.hist_lock.specs.declared.view.View.{View}
 use Rattle.hist_lock.specs.History.{entries, SameUnder}
-use Rattle.hist_lock.specs.Known.{numbers_of, view}
+use Rattle.hist_lock.specs.Known.{numbers_of}
 use Rattle.sector_model.specs.declared.entry.Entry.{Entry}
-use Rattle.sector_model.specs.declared.entry.Event.{Event}
 use Rattle.vc_layout.specs.declared.geometry.Geometry.{Geometry}
 use Rattle.vc_outside.specs.declared.source.Client.{Client}
 use Rattle.vc_outside.specs.declared.source.Source.{Ghosts as SourceGhosts}
@@ -23,7 +21,7 @@ use Rattle.io_queue.specs.Pass.{caller_of}
 use Rattle.nbd_wire.specs.declared.end.End.{End}
 use Rattle.nbd_session.specs.Session.{events_of, Serves}
 use Rattle.vol_server.specs.Served.{AreNew, AreServed, Gained, IsBack, IsServed}
-use Rattle.vol_server.specs.Laws.Weights.{Weigh, Weighs}
+use Rattle.vol_server.specs.Laws.Weights.{Weigh}
 use Rattle.vol_server.specs.Laws.Tasks.{CanJoin, HasJoined, HasRun, HasSplit, HaveRun, IsFresh, caller_in, client_of, end_of, replies_of, view_in}
 use Rattle.vol_server.specs.declared.task.Task.{Task}
 use Rattle.vol_server.proofs.Weighing.{same_weight, whole_again}
@@ -151,6 +149,7 @@ module _ {S C I O : Type 0} {st : StandingGhosts (State S C) Entry} (id : TableI
       gained callers is = record {
         gained = callers;
         under = joined.under ∙ (λ i. split.same.under i ++ (numbers_in us ∙ sym is) i);
+        ended = All-contains_itself callers;
         idle = All-weaker (Contains callers) (λ n. Contains callers n ⊎ (entries caller_of n w.seen ≡ [])) (λ n c. inl c) callers
             (All-contains_itself callers);
       }

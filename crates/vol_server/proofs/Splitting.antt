@@ -10,11 +10,10 @@ use Rattle.std.proofs.lemmas.Nat.{pow-add}
 use Rattle.atomic_table.specs.Seated.{TableId}
 use Rattle.hist_standing.specs.declared.Standing.{Ghosts as StandingGhosts}
 use Rattle.hist_lock.specs.declared.view.View.{View}
-use Rattle.hist_lock.specs.Known.{Halves, IsSame, view}
+use Rattle.hist_lock.specs.Known.{Halves, IsSame}
 use Rattle.sector_model.specs.declared.entry.Entry.{Entry}
 use Rattle.vc_layout.specs.declared.geometry.Geometry.{Geometry}
 use Rattle.io_core.specs.State.{State}
-use Rattle.io_queue.specs.Pass.{IsPass, NothingOpen}
 use Rattle.vol_server.specs.Served.{AreNew}
 use Rattle.vol_server.specs.Laws.Weights.{Weigh, Weighs}
 use Rattle.vol_server.specs.Laws.Tasks.{CanRun, HasSplit, IsFresh, caller_in, view_in}

@@ -6,7 +6,7 @@
 -- AreNew given callers                    no two of the numbers are the same, and each is at least `given`
 -- SameFraction v w                        they have the same share, also if its two numbers differ
 -- IsBack v w                              the pass v, once all that was split from it is joined again
--- Gained callers v w                      w lists more passes that ended in it; those that aren't callers have no entries
+-- Gained callers v w                      w lists more passes that ended in it: those of the callers, and none else with entries
 use Rattle.std.specs.Prelude.{◌≡◌, ◌≢◌, ◌≤◌, ℕ, ◌*◌, ◌^◌, List, [], ◌∷◌, ◌++◌, ◌⊎◌, ⊤, All, AllPairs, Contains}
 use Rattle.vc_base.specs.Faults.{HasCause}
 use Rattle.vc_outside.specs.declared.source.Client.{Client}
@@ -53,4 +53,5 @@ module _ {T : Type 0} where
   pub record Gained (callers : List ℕ) (v w : View T Entry) : Type 0 where
     pub gained : List ℕ
     pub under : w.under ≡ v.under ++ gained
+    pub ended : All (Contains gained) callers
     pub idle : All (λ n. Contains callers n ⊎ (entries caller_of n w.seen ≡ [])) gained

@@ -25,13 +25,7 @@ pub(crate) fn run_all<
     I: Source + Send,
     O: Sink + Send,
     G: Gate,
->(
-    rt: &R,
-    alloc: Global,
-    volume: &Volume<S, C>,
-    gate: &G,
-    tasks: &mut [Task<Core<S, C>, I, O>],
-)
+>(rt: &R, alloc: Global, volume: &Volume<S, C>, gate: &G, tasks: &mut [Task<Core<S, C>, I, O>])
     requires sector { IsSectorSize volume.now.geometry.sector }
     requires tasks { All (CanRun volume.now.lock.table.shared.table_id volume.now.geometry volume.now.cipher) tasks.old }
     ensures { HaveRun volume.now.lock.table.shared.table_id volume.now.geometry volume.now.cipher
@@ -58,26 +52,13 @@ fn run<
     I: Source + Send,
     O: Sink + Send,
     G: Gate,
->(
-    rt: &R,
-    alloc: Global,
-    volume: &Volume<S, C>,
-    gate: &G,
-    task: &mut Task<Core<S, C>, I, O>,
-)
+>(rt: &R, alloc: Global, volume: &Volume<S, C>, gate: &G, task: &mut Task<Core<S, C>, I, O>)
     requires sector { IsSectorSize volume.now.geometry.sector }
     requires task { CanRun volume.now.lock.table.shared.table_id volume.now.geometry volume.now.cipher task.old }
     ensures { HasRun volume.now.lock.table.shared.table_id volume.now.geometry volume.now.cipher
         ⟦<I as Source>⟧ ⟦<O as Sink>⟧ task.old task.new }
 {
-    let (end, replies) = session(
-        rt,
-        alloc,
-        volume,
-        &mut task.pass,
-        gate,
-        &mut task.client,
-    );
+    let (end, replies) = session(rt, alloc, volume, &mut task.pass, gate, &mut task.client);
     task.end = end;
     task.replies = replies;
 }

@@ -14,7 +14,7 @@ use std::sync::Wait;
 use std::test::Fail;
 use std::thread::Threads;
 use vc_layout::Geometry;
-use vc_outside::{Client, MemSource, NoGate, SureSink, SureStore};
+use vc_outside::{Client, Gate, HoldGate, MemSource, NoGate, SureSink, SureStore};
 
 // A cipher that turns a block round.
 #[derive(Clone, Copy)]
@@ -100,36 +100,38 @@ struct Row {
 }
 
 // What both clients have after they were served side by side, and the volume's bytes then.
-fn served<R: AllocGlobal + Abort + Threads + Wait + Sync>(
+fn served<R: AllocGlobal + Abort + Threads + Wait + Sync, G: Gate>(
     rt: &R,
     plans: [Plan; 2],
     helpers: u32,
+    gate: &G,
 ) -> Result<(Vec<Row>, [u8; 2048]), Fail>
     requires { helpers ≤ 8 }
 {
     let alloc = rt.alloc();
     let zeros = vec![in alloc; 0u8; 4096].map_err(|_| "no memory")?;
     let cipher = Xts::new(Turned, Turned);
-    let Ok((volume, mut pass)) = Volume::open(
-        alloc,
-        SureStore::new(zeros),
-        SMALL,
-        cipher,
-        None,
-        2,
-    ) else {
+    let Ok((volume, mut pass)) = Volume::open(alloc, SureStore::new(zeros), SMALL, cipher, None, 2)
+    else {
         return Err("no memory".into());
     };
     let [left, right] = plans;
     let left = client_of(alloc, left)?;
     let right = client_of(alloc, right)?;
     let clients = Vec::from_array(alloc, [left, right])?;
-    let Ok(served) = serve(rt, alloc, &volume, &mut pass, clients, helpers, &NoGate) else {
+    let Ok(served) = serve(rt, alloc, &volume, &mut pass, clients, helpers, gate) else {
         return Err("no memory".into());
     };
     let mut rows = Vec::new(alloc);
     assert_eq!(rt; served.clients.len(), 2);
-    assert_eq!(rt; (served.ends.len(), served.replies.len(), served.callers.len()), (2, 2, 2));
+    assert_eq!(rt;
+        (
+            served.ends.len(),
+            served.replies.len(),
+            served.callers.len()
+        ),
+        (2, 2, 2)
+    );
     for (i, client) in served.clients.iter().enumerate() {
         rows.push(Row {
             end: served.ends[i],
@@ -170,14 +172,23 @@ fn expect_whole<R: AllocGlobal + Abort>(
     byte: u8,
 ) -> Result<(), Fail> {
     let want = replies_of(rt.alloc(), byte)?;
-    assert_eq!(rt; (row.end, row.replies, row.caller), (End::Done, 2, caller), "{case}");
+    assert_eq!(rt;
+        (row.end, row.replies, row.caller),
+        (End::Done, 2, caller),
+        "{case}"
+    );
     assert_eq!(rt; row.sent.as_slice(), want.as_slice(), "{case}");
     Ok(())
 }
 
-// Whether all bytes are this one.
-fn is_full(bytes: &[u8], byte: u8) -> bool {
-    bytes.iter().all(|b| *b == byte)
+// Whether the sector is full of this byte.
+fn is_full(bytes: &[u8; 2048], sector: usize, byte: u8) -> bool {
+    if sector >= 4 {
+        return false;
+    }
+    bytes[512 * sector..512 * sector + 512]
+        .iter()
+        .all(|b| *b == byte)
 }
 
 #[test]
@@ -197,15 +208,17 @@ fn each_client_has_its_own_session_and_number(rt: HostRuntime) -> Result<(), Fai
                 fails: NEVER,
             },
         ];
-        let (rows, bytes) = served(&rt, plans, helpers)?;
+        let (rows, bytes) = served(&rt, plans, helpers, &NoGate)?;
         assert_eq!(rt; rows.len(), 2);
         expect_whole(&rt, case, &rows[0], 1, 1)?;
         expect_whole(&rt, case, &rows[1], 2, 2)?;
-        assert!(rt; is_full(&bytes[..512], 1), "{case}");
+        assert!(rt; is_full(&bytes, 0, 1), "{case}");
         // no sector is half one write and half the other
-        let shared = &bytes[512..1024];
-        assert!(rt; is_full(shared, 1) || first == 1 && is_full(shared, 2), "{case}");
-        assert!(rt; is_full(&bytes[1024..1536], 2), "{case}");
+        assert!(rt;
+            is_full(&bytes, 1, 1) || first == 1 && is_full(&bytes, 1, 2),
+            "{case}"
+        );
+        assert!(rt; is_full(&bytes, 2, 2), "{case}");
     }
     Ok(())
 }
@@ -228,13 +241,47 @@ fn a_source_that_fails_ends_its_own_session(rt: HostRuntime) -> Result<(), Fail>
                 fails: NEVER,
             },
         ];
-        let (rows, bytes) = served(&rt, plans, 0)?;
+        let (rows, bytes) = served(&rt, plans, 0, &NoGate)?;
         assert_eq!(rt; rows.len(), 2);
-        assert_eq!(rt; (rows[0].end, rows[0].replies, rows[0].caller), (End::ReadFault, 0, 1), "{case}");
+        assert_eq!(rt;
+            (rows[0].end, rows[0].replies, rows[0].caller),
+            (End::ReadFault, 0, 1),
+            "{case}"
+        );
         assert_eq!(rt; rows[0].sent.len(), 0, "{case}");
         expect_whole(&rt, case, &rows[1], 2, 2)?;
-        assert!(rt; !is_full(&bytes[..512], 1), "{case}");
-        assert!(rt; is_full(&bytes[1024..], 2), "{case}");
+        assert!(rt; !is_full(&bytes, 0, 1), "{case}");
+        assert!(rt; is_full(&bytes, 2, 2) && is_full(&bytes, 3, 2), "{case}");
+    }
+    Ok(())
+}
+
+// Each client's write is held before it is enciphered until the other's has ended. By the points of `io_queue`.
+#[test]
+fn no_session_waits_for_another_to_end(rt: HostRuntime) -> Result<(), Fail> {
+    let plans = [
+        Plan {
+            byte: 1,
+            first: 0,
+            then: 0,
+            fails: NEVER,
+        },
+        Plan {
+            byte: 2,
+            first: 2,
+            then: 2,
+            fails: NEVER,
+        },
+    ];
+    for (case, hold, until) in [
+        ("the first is held", 1, 514),
+        ("the second is held", 513, 2),
+    ] {
+        let gate = HoldGate::new(hold, until, 1_000_000_000);
+        let (rows, _bytes) = served(&rt, plans, 0, &gate)?;
+        assert_eq!(rt; rows.len(), 2);
+        assert!(rt; !gate.gave_up(), "{case}");
+        assert_eq!(rt; (rows[0].replies, rows[1].replies), (2, 2), "{case}");
     }
     Ok(())
 }

@@ -4,7 +4,7 @@
 -- CanRun .. t            the task's session may run
 -- HasSplit .. u v ts     a pass for each task was split from u, which is v now
 -- HasRun .. t now        the task's session ran
--- HaveRun .. ts us       those of all tasks did
+-- HaveRun .. ts us       the sessions of all tasks ran, of which us are the tasks then
 -- CanJoin .. t           the task's pass may be joined, and none was joined into it
 -- HasJoined u v ws       the passes ws were joined into u, which is v now
 use Rattle.std.specs.Prelude.{◌≡◌, ◌<◌, ◌≤◌, ℕ, ◌+◌, ◌*◌, ◌^◌, List, [], ◌++◌, length, All, map, slice_index_or}

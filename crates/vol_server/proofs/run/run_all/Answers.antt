@@ -12,6 +12,9 @@ for_each_mut-requires-clause-accepts g c κs within i p lt is =
     )
 
 pub returns : goal.returns
-returns g c = (c.for_each_mut.auto.s, λ k d lt.
-    let v = c.args.volume.now in let e = (c.for_each_mut.ensures k d lt).1 in
-    ran_as v.lock.table.shared.table_id v.geometry v.cipher g.I.Source g.O.Sink _ _ _ _ e.argument_is e.left e.call)
+returns g c = (
+  c.for_each_mut.auto.s,
+  λ k d lt.
+      let v = c.args.volume.now in let e = (c.for_each_mut.ensures k d lt).1 in
+      ran_as v.lock.table.shared.table_id v.geometry v.cipher g.I.Source g.O.Sink _ _ _ _ e.argument_is e.left e.call,
+)
