@@ -16,3 +16,9 @@ pub mod Expanding
 pub mod CommandIsChosen
 -- sectors in data units and bytes
 pub mod Sectors
+-- when a volume is opened to be served, and what comes without a fault
+pub mod Serving
+-- the status of the clients' ends
+pub mod Ends
+-- a volume that was opened, served and closed
+pub mod ServedVolume

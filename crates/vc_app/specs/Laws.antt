@@ -2,3 +2,7 @@
 pub mod Settled
 -- opening without a header
 pub mod Unopened
+-- a hidden header that isn't opened
+pub mod Hidden
+-- a volume from its opening on
+pub mod Opening

@@ -22,5 +22,7 @@ pub mod Restore
 pub mod Expand
 -- the commands, each with its promise
 pub mod Commands
+-- what `serve` promises
+pub mod Serve
 -- definitions that only private contracts cite
 pub mod Laws

@@ -6,12 +6,17 @@
 //! `expand` makes a container longer.
 //! Everything streams: a call holds one buffer, of 64 KiB or for `cat` up to 1 MiB, whatever the container's size.
 //!
+//! `run_serve` serves clients over a container: it opens the volume, also with a hidden one that is protected, has
+//! `vol_server` serve the clients, syncs the container and writes a line for each client. `specs/Serve.antt` has its
+//! promise.
+//!
 //! What a command promises is a record in its own file of specs/, and what a promise means is said once, in
 //! specs/Promise.antt. Each command returns a result of its own; `status` alone turns it into a status.
 //! `docs/DEVELOPING.md`, "Building a command", has the steps.
 #![tactic(auto)]
 
 pub use plain::run_plain;
+pub use serve::{ServeEnd, run_serve};
 pub use status::Status;
 
 mod access;
@@ -19,6 +24,7 @@ mod commands;
 mod counts;
 mod output;
 pub mod plain;
+pub mod serve;
 pub mod status;
 #[cfg(test)]
 mod tests;

@@ -1,0 +1,435 @@
+//! The top call of `serve`.
+ghost use Rattle.std.specs.Prelude.{◌≡◌, ◌≤◌, ◌⊎◌, ℕ, [], length, map, string_bytes, All, Contains, IfSome, MatchOption, Some, option_map};
+ghost use Rattle.vc_base.specs.Faults.{HasCause, Rose};
+ghost use Rattle.cmd_words.specs.Meaning.{meaning};
+ghost use Rattle.cmd_words.specs.Ranges.{IsInRange};
+ghost use Rattle.kdf_hmac.specs.Pbkdf2.{IsPim};
+ghost use Rattle.hist_lock.specs.Known.{IsWhole, closed, numbers_of, view};
+ghost use Rattle.io_queue.specs.Closed.{IsLeft};
+ghost use Rattle.io_queue.specs.Pass.{IsPass, NothingOpen};
+ghost use Rattle.vc_header.specs.Header.{Meets};
+ghost use Rattle.vc_layout.specs.Layout.{IsContainerLength, IsSectorSize};
+ghost use Rattle.vc_outside.specs.Crash.{IsLasting};
+ghost use Rattle.vc_outside.specs.Told.{Grows, GrowsByFront};
+ghost use Rattle.vc_app.specs.Laws.Opening.{IsFirst, Opening, RanFrom};
+ghost use Rattle.vc_app.specs.Promise.{seen};
+ghost use Rattle.vc_app.specs.Serve.{asked, asked_by, ends_status, EndsBy, IsAfterSync, IsComplete, IsOfClient, IsOpening, Kept, lines, most_clients};
+
+use crate::serve::asked::Asked;
+use crate::serve::ends::write_ends;
+use crate::serve::opening::{memory_status, open_asked};
+use crate::status::Status;
+use cascade_set::{Keyed, Keys};
+use cipher_base::UnitCipher;
+use cmd_words::{Command, read_words};
+use header_try::Opened;
+use hist_lock::{Pass, Standing};
+use io_core::{Core, NoMemory};
+use io_queue::Volume;
+use nbd_wire::End;
+use std::alloc::Global;
+use std::sync::Wait;
+use std::thread::Threads;
+use vc_header::geometry_of;
+use vc_outside::{Client, Gate, Sink, Source, Store};
+use vol_server::{Served, serve};
+
+pub mod asked;
+mod ends;
+mod opening;
+
+/// How many writes may be pending at a time: one of each client.
+const PENDING: u32 = 16;
+
+/// How a call of `serve` ended. Item i of each list belongs to client i; they are empty if nobody was served.
+#[derive(Drop)]
+pub struct ServeEnd<D: Store, I, O, P>
+where
+    Core<D, Keyed>: Standing,
+{
+    pub status: Status,
+    pub disk: D,
+    pub clients: Vec<Client<I, O>>,
+    pub out: P,
+    /// How the sessions ended.
+    pub ends: Vec<End>,
+    /// How many replies were written whole.
+    pub replies: Vec<u64>,
+    /// The numbers under which the clients' entries are in the history.
+    pub callers: Vec<u64>,
+    /// The pass of the volume, if that was opened. It has seen the whole history.
+    pub pass: Option<Pass<Core<D, Keyed>>>,
+}
+
+/// Carries out `serve` over a container, its clients and an output, and gives all of them back.
+///
+/// The headers are opened, `--protect`'s too, and the clients' requests are answered by one history of the volume. Once
+/// all clients have ended, the container is synced, and a line for each client is written.
+pub fn run_serve<
+    R: Threads + Wait + Sync,
+    D: Store + Send,
+    I: Source + Send,
+    O: Sink + Send,
+    P: Sink,
+    G: Gate,
+>(
+    rt: &R,
+    alloc: Global,
+    words: &[String],
+    disk: D,
+    clients: Vec<Client<I, O>>,
+    out: P,
+    gate: &G,
+) -> ServeEnd<D, I, O, P>
+    ensures kept { Kept ⟦<D as Store>⟧ ⟦<Keyed as UnitCipher>⟧ ⟦<I as Source>⟧ ⟦<O as Sink>⟧
+        (asked (map string_bytes words.now) (length clients.items)) (seen ⟦<D as Store>⟧ ⟦<P as Sink>⟧ disk out)
+        (option_map (λ p. view p.seat) result.pass) (record {
+          contents = P.contents out;
+          out_faults = P.faults out;
+          before = clients.items;
+          new = seen ⟦<D as Store>⟧ ⟦<P as Sink>⟧ result.disk result.out;
+          after = result.clients.items;
+          status = result.status;
+          ends = result.ends.items;
+          replies = result.replies.items;
+          callers = result.callers.items;
+        }) }
+    ensures opening { IsOpening (asked (map string_bytes words.now) (length clients.items))
+        (seen ⟦<D as Store>⟧ ⟦<P as Sink>⟧ disk out) (option_map (λ p. view p.seat) result.pass) (record {
+          contents = P.contents out;
+          out_faults = P.faults out;
+          before = clients.items;
+          new = seen ⟦<D as Store>⟧ ⟦<P as Sink>⟧ result.disk result.out;
+          after = result.clients.items;
+          status = result.status;
+          ends = result.ends.items;
+          replies = result.replies.items;
+          callers = result.callers.items;
+        }) }
+    ensures complete { IsComplete ⟦<I as Source>⟧ ⟦<O as Sink>⟧ (asked (map string_bytes words.now) (length clients.items))
+        (seen ⟦<D as Store>⟧ ⟦<P as Sink>⟧ disk out) (record {
+          contents = P.contents out;
+          out_faults = P.faults out;
+          before = clients.items;
+          new = seen ⟦<D as Store>⟧ ⟦<P as Sink>⟧ result.disk result.out;
+          after = result.clients.items;
+          status = result.status;
+          ends = result.ends.items;
+          replies = result.replies.items;
+          callers = result.callers.items;
+        }) }
+{
+    carry_out(rt, alloc, words, disk, clients, out, gate)
+}
+
+// Reads the arguments and carries out what they ask.
+fn carry_out<
+    R: Threads + Wait + Sync,
+    D: Store + Send,
+    I: Source + Send,
+    O: Sink + Send,
+    P: Sink,
+    G: Gate,
+>(
+    rt: &R,
+    alloc: Global,
+    words: &[String],
+    disk: D,
+    clients: Vec<Client<I, O>>,
+    out: P,
+    gate: &G,
+) -> ServeEnd<D, I, O, P>
+    ensures { Kept ⟦<D as Store>⟧ ⟦<Keyed as UnitCipher>⟧ ⟦<I as Source>⟧ ⟦<O as Sink>⟧
+        (asked (map string_bytes words.now) (length clients.items)) (seen ⟦<D as Store>⟧ ⟦<P as Sink>⟧ disk out)
+        (option_map (λ p. view p.seat) result.pass) (record {
+          contents = P.contents out;
+          out_faults = P.faults out;
+          before = clients.items;
+          new = seen ⟦<D as Store>⟧ ⟦<P as Sink>⟧ result.disk result.out;
+          after = result.clients.items;
+          status = result.status;
+          ends = result.ends.items;
+          replies = result.replies.items;
+          callers = result.callers.items;
+        }) }
+{
+    match read_words(alloc, words) {
+        Ok(command) => match asked_of(command, &clients) {
+            Some(asked) => serve_asked(rt, alloc, &asked, disk, clients, out, gate),
+            None => idle_end(alloc, Status::Usage, disk, clients, out, None),
+        },
+        Err(error) => {
+            let status = Status::from(error);
+            idle_end(alloc, status, disk, clients, out, None)
+        }
+    }
+}
+
+// What a command asks of a call with these clients.
+fn asked_of<I, O>(command: Command, clients: &Vec<Client<I, O>>) -> Option<Asked>
+    requires { IsInRange (meaning command) }
+    ensures asked { result ≡ asked_by (length clients.now.items) (meaning command) }
+    ensures some { IfSome result (λ a. 1 ≤ length clients.now.items) }
+    ensures few { IfSome result (λ a. length clients.now.items ≤ most_clients) }
+    ensures pim { IfSome result (λ a. IsPim a.access.pim) }
+    ensures protect_pim { IfSome result (λ a. IfSome a.protect (λ p. IsPim p.pim)) }
+    ensures helpers { IfSome result (λ a. a.helpers ≤ 8) }
+{
+    Asked::of(command, clients.len())
+}
+
+// The end of a call that served nobody.
+fn idle_end<D: Store, I, O, P>(
+    alloc: Global,
+    status: Status,
+    disk: D,
+    clients: Vec<Client<I, O>>,
+    out: P,
+    pass: Option<Pass<Core<D, Keyed>>>,
+) -> ServeEnd<D, I, O, P>
+    ensures status { result.status ≡ status }
+    ensures disk { result.disk ≡ disk }
+    ensures clients { result.clients.items ≡ clients.items }
+    ensures out { result.out ≡ out }
+    ensures ends { result.ends.items ≡ [] }
+    ensures replies { result.replies.items ≡ [] }
+    ensures callers { result.callers.items ≡ [] }
+    ensures pass { result.pass ≡ pass }
+{
+    ServeEnd {
+        status,
+        disk,
+        clients,
+        out,
+        ends: Vec::new(alloc),
+        replies: Vec::new(alloc),
+        callers: Vec::new(alloc),
+        pass,
+    }
+}
+
+// Opens the headers and serves the clients.
+fn serve_asked<
+    R: Threads + Wait + Sync,
+    D: Store + Send,
+    I: Source + Send,
+    O: Sink + Send,
+    P: Sink,
+    G: Gate,
+>(
+    rt: &R,
+    alloc: Global,
+    asked: &Asked,
+    disk: D,
+    clients: Vec<Client<I, O>>,
+    out: P,
+    gate: &G,
+) -> ServeEnd<D, I, O, P>
+    requires some { 1 ≤ length clients.items }
+    requires few { length clients.items ≤ most_clients }
+    requires pim { IsPim asked.now.access.pim }
+    requires protect_pim { IfSome asked.now.protect (λ p. IsPim p.pim) }
+    requires helpers { asked.now.helpers ≤ 8 }
+    ensures { Kept ⟦<D as Store>⟧ ⟦<Keyed as UnitCipher>⟧ ⟦<I as Source>⟧ ⟦<O as Sink>⟧
+        (Some asked.now) (seen ⟦<D as Store>⟧ ⟦<P as Sink>⟧ disk out)
+        (option_map (λ p. view p.seat) result.pass) (record {
+          contents = P.contents out;
+          out_faults = P.faults out;
+          before = clients.items;
+          new = seen ⟦<D as Store>⟧ ⟦<P as Sink>⟧ result.disk result.out;
+          after = result.clients.items;
+          status = result.status;
+          ends = result.ends.items;
+          replies = result.replies.items;
+          callers = result.callers.items;
+        }) }
+{
+    let mut disk = disk;
+    let at_start = disk.faults();
+    match open_asked(rt, alloc, &mut disk, asked) {
+        Ok((opened, protect)) => serve_opened(
+            rt,
+            alloc,
+            &opened,
+            protect,
+            at_start,
+            disk,
+            clients,
+            out,
+            asked.helpers,
+            gate,
+        ),
+        Err(status) => idle_end(alloc, status, disk, clients, out, None),
+    }
+}
+
+// Serves the volume of an opened header. `faults` is the container's count when the call began.
+fn serve_opened<
+    R: Threads + Wait + Sync,
+    D: Store + Send,
+    I: Source + Send,
+    O: Sink + Send,
+    P: Sink,
+    G: Gate,
+>(
+    rt: &R,
+    alloc: Global,
+    opened: &Opened,
+    protect: Option<(u64, u64)>,
+    faults: u64,
+    disk: D,
+    clients: Vec<Client<I, O>>,
+    out: P,
+    helpers: u32,
+    gate: &G,
+) -> ServeEnd<D, I, O, P>
+    requires some { 1 ≤ length clients.items }
+    requires few { length clients.items ≤ most_clients }
+    requires helpers { helpers ≤ 8 }
+    requires meets { Meets opened.now.fields opened.now.slot (D.size disk) }
+    requires in_range { IsContainerLength (D.size disk) }
+    requires faults { faults ≤ D.faults disk }
+    ensures { Opening ⟦<D as Store>⟧ ⟦<Keyed as UnitCipher>⟧ ⟦<I as Source>⟧ ⟦<O as Sink>⟧
+        opened.now protect faults (seen ⟦<D as Store>⟧ ⟦<P as Sink>⟧ disk out)
+        (option_map (λ p. view p.seat) result.pass) (record {
+          contents = P.contents out;
+          out_faults = P.faults out;
+          before = clients.items;
+          new = seen ⟦<D as Store>⟧ ⟦<P as Sink>⟧ result.disk result.out;
+          after = result.clients.items;
+          status = result.status;
+          ends = result.ends.items;
+          replies = result.replies.items;
+          callers = result.callers.items;
+        }) }
+{
+    let keyed = Keyed::new(&Keys {
+        algorithm: opened.algorithm,
+        material: opened.fields.material,
+    });
+    let geometry = geometry_of(&opened.fields);
+    match Volume::open(alloc, disk, geometry, keyed, protect, PENDING) {
+        Ok((volume, pass)) => { serve_volume(rt, alloc, volume, pass, clients, out, helpers, gate) }
+        Err((NoMemory, disk)) => {
+            let status = memory_status(&disk, faults);
+            idle_end(alloc, status, disk, clients, out, None)
+        }
+    }
+}
+
+// Serves a volume whose first pass this is, and closes it.
+fn serve_volume<
+    R: Threads + Wait + Sync,
+    D: Store + Send,
+    I: Source + Send,
+    O: Sink + Send,
+    P: Sink,
+    G: Gate,
+>(
+    rt: &R,
+    alloc: Global,
+    volume: Volume<D, Keyed>,
+    pass: Pass<Core<D, Keyed>>,
+    clients: Vec<Client<I, O>>,
+    out: P,
+    helpers: u32,
+    gate: &G,
+) -> ServeEnd<D, I, O, P>
+    requires some { 1 ≤ length clients.items }
+    requires few { length clients.items ≤ most_clients }
+    requires helpers { helpers ≤ 8 }
+    requires pass { IsPass volume.lock.table.shared.table_id volume.geometry volume.cipher pass.seat }
+    requires open { NothingOpen (view pass.seat) }
+    requires first { IsFirst (view pass.seat) }
+    requires sector { IsSectorSize volume.geometry.sector }
+    ensures { MatchOption (option_map (λ p. view p.seat) result.pass) ⊥ (λ v. RanFrom
+        ⟦<D as Store>⟧ ⟦<Keyed as UnitCipher>⟧ ⟦<I as Source>⟧ ⟦<O as Sink>⟧ (view pass.seat) v (record {
+          contents = P.contents out;
+          out_faults = P.faults out;
+          before = clients.items;
+          new = seen ⟦<D as Store>⟧ ⟦<P as Sink>⟧ result.disk result.out;
+          after = result.clients.items;
+          status = result.status;
+          ends = result.ends.items;
+          replies = result.replies.items;
+          callers = result.callers.items;
+        })) }
+{
+    let mut pass = pass;
+    let mut out = out;
+    match serve(rt, alloc, &volume, &mut pass, clients, helpers, gate) {
+        Ok(served) => {
+            let (disk, pass) = close_whole(volume, pass);
+            let mut disk = disk;
+            let Served {
+                ends,
+                replies,
+                callers,
+                clients,
+            } = served;
+            let status = end_call(alloc, &mut disk, &mut out, &ends, &replies);
+            ServeEnd {
+                status,
+                disk,
+                clients,
+                out,
+                ends,
+                replies,
+                callers,
+                pass: Some(pass),
+            }
+        }
+        Err((NoMemory, clients)) => {
+            let (disk, pass) = close_whole(volume, pass);
+            idle_end(alloc, Status::NoMemory, disk, clients, out, Some(pass))
+        }
+    }
+}
+
+// Closes a volume with a pass that has the whole share.
+fn close_whole<D: Store, C: UnitCipher>(
+    volume: Volume<D, C>,
+    pass: Pass<Core<D, C>>,
+) -> (D, Pass<Core<D, C>>)
+    requires pass { IsPass volume.lock.table.shared.table_id volume.geometry volume.cipher pass.seat }
+    requires open { NothingOpen (view pass.seat) }
+    requires whole { IsWhole (view pass.seat) }
+    ensures pass { view result.1.seat ≡ closed (view pass.seat) }
+    ensures left { IsLeft ⟦<D as Store>⟧ ⟦<C as UnitCipher>⟧ (view result.1.seat) result.0 }
+    ensures callers { All (λ e. Contains (numbers_of (view result.1.seat)) e.caller) (view result.1.seat).seen }
+{
+    match volume.close(pass) {
+        Ok(closed) => closed,
+        Err(_kept) => unreachable!(),
+    }
+}
+
+// Makes all writes lasting, and then writes the clients' lines. Returns the status of the call.
+fn end_call<D: Store, P: Sink>(
+    alloc: Global,
+    disk: &mut D,
+    out: &mut P,
+    ends: &[End],
+    replies: &[u64],
+) -> Status
+    requires few { length ends.now ≤ 16 }
+    requires as_long { length replies.now ≡ length ends.now }
+    ensures statuses { EndsBy (ends_status 0 ends.now) result }
+    ensures printed { GrowsByFront (P.contents out.old) (P.contents out.new) (lines 0 ends.now replies.now) }
+    ensures all_printed { result ≡ Status.Done
+        → Grows (P.contents out.old) (P.contents out.new) (lines 0 ends.now replies.now) }
+    ensures clients_printed { IsOfClient result
+        → Grows (P.contents out.old) (P.contents out.new) (lines 0 ends.now replies.now)
+        ⊎ Rose (P.faults out.old) (P.faults out.new) }
+    ensures quiet_fault { result ≡ Status.DiskFault → P.contents out.new ≡ P.contents out.old }
+    ensures synced { IsAfterSync result → IsLasting D.tells (D.image disk.new) (D.may_leave disk.new) }
+    ensures disk_fault { HasCause (D.faults disk.old) (D.faults disk.new) (result ≡ Status.DiskFault) }
+    ensures out_fault { HasCause (P.faults out.old) (P.faults out.new) (result ≡ Status.OutFault) }
+    ensures image { D.image disk.new ≡ D.image disk.old }
+    ensures size { D.size disk.new ≡ D.size disk.old }
+{
+    match disk.sync() {
+        Ok(()) => write_ends(alloc, out, ends, replies),
+        Err(_) => Status::DiskFault,
+    }
+}
