@@ -1,4 +1,4 @@
-//! A sink over a file.
+//! A sink over a file, the standard output or the standard error.
 ghost use Rattle.std.specs.Prelude.{◌≡◌, ◌≤◌, None, length, IfOk, OnErr, OnOk, IsErr, IsErrOf};
 ghost use Rattle.vc_base.specs.Faults.{HasCause};
 
@@ -6,13 +6,38 @@ use crate::file_store::FileStore;
 use crate::obstacle::Obstacle;
 use crate::stream_sink::StreamSink;
 use std::fs::{File, OpenOptions};
+use std::io::{self, Stderr, Stdout, Write};
 use std::rt::Files;
 use vc_outside::{Failed, OutError, Sink};
 
-/// A sink over a file. Contracts know nothing of what it holds.
+/// A sink over a file, which may be a pipe that has a name, or over a standard stream. Contracts know nothing of
+/// what it holds.
 #[derive(Drop)]
 pub struct FileSink {
-    stream: StreamSink<File>,
+    stream: StreamSink<Output>,
+}
+
+// Where the bytes go.
+#[derive(Drop)]
+enum Output {
+    File(File),
+    Standard(Stdout),
+    Error(Stderr),
+}
+
+impl Write for Output {
+    fn write(&mut self, buf: &[u8]) -> io::Result<usize> {
+        match self {
+            Output::File(file) => file.write(buf),
+            Output::Standard(stdout) => stdout.write(buf),
+            Output::Error(stderr) => stderr.write(buf),
+        }
+    }
+
+    // No buffer is before the system's calls.
+    fn flush(&mut self) -> io::Result<()> {
+        Ok(())
+    }
 }
 
 impl FileSink {
@@ -27,7 +52,7 @@ impl FileSink {
             .truncate(true)
             .open(rt, path);
         match opened {
-            Ok(file) => Ok(FileSink::over(file)),
+            Ok(file) => Ok(FileSink::over(Output::File(file))),
             Err(_) => Err(Failed),
         }
     }
@@ -47,14 +72,28 @@ impl FileSink {
         if file.metadata()?.is_file() {
             file.set_len(0)?;
         }
-        Ok(FileSink::over(file))
+        Ok(FileSink::over(Output::File(file)))
     }
 
-    fn over(file: File) -> FileSink
+    /// The standard output, whatever it is.
+    pub fn output(stdout: Stdout) -> FileSink
+        ensures { ⟦<FileSink as Sink>⟧.faults result ≡ 0 }
+    {
+        FileSink::over(Output::Standard(stdout))
+    }
+
+    /// The standard error, whatever it is.
+    pub fn error(stderr: Stderr) -> FileSink
+        ensures { ⟦<FileSink as Sink>⟧.faults result ≡ 0 }
+    {
+        FileSink::over(Output::Error(stderr))
+    }
+
+    fn over(output: Output) -> FileSink
         ensures { ⟦<FileSink as Sink>⟧.faults result ≡ 0 }
     {
         FileSink {
-            stream: StreamSink::new(file),
+            stream: StreamSink::new(output),
         }
     }
 }

@@ -1,4 +1,4 @@
-//! A source over a file.
+//! A source over a file or the standard input.
 ghost use Rattle.std.specs.Prelude.{◌≡◌, ◌≤◌, None, length, IfOk, OnOk, IsErr};
 ghost use Rattle.vc_base.specs.Faults.{HasCause};
 
@@ -6,14 +6,32 @@ use crate::file_store::FileStore;
 use crate::obstacle::Obstacle;
 use crate::stream_source::StreamSource;
 use std::fs::File;
-use std::io::{self, ErrorKind};
+use std::io::{self, ErrorKind, Read, Stdin};
 use std::rt::Files;
 use vc_outside::{Failed, Source};
 
-/// A source over a file, which may be a pipe that has a name. Contracts know nothing of what is left in it.
+/// A source over a file, which may be a pipe that has a name, or over the standard input. Contracts know nothing
+/// of what is left in it.
 #[derive(Drop)]
 pub struct FileSource {
-    stream: StreamSource<File>,
+    stream: StreamSource<Input>,
+}
+
+// Where the bytes come from.
+#[derive(Drop)]
+enum Input {
+    File(File),
+    // As it is: opened anew by a name, a regular file would start again, and a socket can't be opened.
+    Standard(Stdin),
+}
+
+impl Read for Input {
+    fn read(&mut self, buf: &mut [u8]) -> io::Result<usize> {
+        match self {
+            Input::File(file) => file.read(buf),
+            Input::Standard(stdin) => stdin.read(buf),
+        }
+    }
 }
 
 impl FileSource {
@@ -23,7 +41,7 @@ impl FileSource {
         ensures { IfOk result (λ s. ⟦<FileSource as Source>⟧.faults s ≡ 0) }
     {
         match readable(rt, path) {
-            Ok(file) => Ok(FileSource::over(file)),
+            Ok(file) => Ok(FileSource::over(Input::File(file))),
             Err(_) => Err(Failed),
         }
     }
@@ -38,14 +56,29 @@ impl FileSource {
     {
         let file = readable(rt, path)?;
         container.refuse_own(&file)?;
-        Ok(FileSource::over(file))
+        Ok(FileSource::over(Input::File(file)))
     }
 
-    fn over(file: File) -> FileSource
+    /// Takes the standard input, whatever it is, and refuses the container. That it is the container is seen at
+    /// `/dev/stdin`.
+    pub fn standard_beside<R: Files<File = File>>(
+        rt: &R,
+        stdin: Stdin,
+        container: &FileStore,
+    ) -> Result<FileSource, Obstacle>
+        ensures { IfOk result (λ s. ⟦<FileSource as Source>⟧.faults s ≡ 0) }
+    {
+        if container.is_at(rt, "/dev/stdin") {
+            return Err(Obstacle::Container);
+        }
+        Ok(FileSource::over(Input::Standard(stdin)))
+    }
+
+    fn over(input: Input) -> FileSource
         ensures { ⟦<FileSource as Source>⟧.faults result ≡ 0 }
     {
         FileSource {
-            stream: StreamSource::new(file),
+            stream: StreamSource::new(input),
         }
     }
 }
