@@ -6,9 +6,9 @@
 PROGRAM defaults to crates/vcserve/out/vcserve. It is not built here: `rt run` in crates/vcserve
 builds it (README.md). Each row runs it once and compares the exit status, the
 standard output, the standard error and the container after it: the same bytes as before, or those
-that the command has to leave (check_format.py, check_hidden.py, check_change.py, check_expand.py). Secrets in files and a
-person's terminal are tried by check_secrets.py and check_terminal.py. A row that is wrong is printed; the
-last line counts them. What can't be tried on this machine is printed too.
+that the command has to leave (check_format.py, check_hidden.py, check_change.py, check_expand.py). Clients of `serve` are
+those of check_serve.py. Secrets in files and a person's terminal are tried by check_secrets.py and check_terminal.py. A row
+that is wrong is printed; the last line counts them. What can't be tried on this machine is printed too.
 
 The status is 1 if a row is wrong. Otherwise it is 77 if the package `cryptography` is missing,
 which all rows need, or libgcrypt, which those with Serpent and Twofish need.
@@ -25,6 +25,7 @@ import check_expand
 import check_format
 import check_hidden
 import check_secrets
+import check_serve
 import check_terminal
 from independent_container import GROUP, SECTOR, make, pattern, read
 from program_rows import (LIMIT, LINES, PASSWORD, Rows, differences, differences_left, nobody,
@@ -265,6 +266,10 @@ def client_files(rows, small, folder):
         ("the dashes as the password", [*right[:4], "--password", "--", "--pim", "1"]),
         ("dashes first", ["--", "serve", *opening]),
         ("dashes alone", ["--"]),
+        ("serve without clients", ["serve", *opening]),
+        ("serve without clients, and dashes", ["serve", *opening, "--"]),
+        ("serve and two standard inputs", ["serve", *opening, "--", "-", a, "-", b]),
+        ("serve and two standard outputs", ["serve", *opening, "--", a, "-", b, "-"]),
         ("no command and a pair", ["--", a, b]),
         ("unknown command and a pair", ["dog", *opening, "--", a, b]),
         ("serve and one file", ["serve", *opening, "--", a]),
@@ -431,6 +436,7 @@ def main(words):
         check_hidden.check(rows, folder)
         check_change.check(rows, folder)
         check_expand.check(rows, folder)
+        check_serve.check(rows, folder)
         check_secrets.check(rows, small, folder)
         check_terminal.check(rows, small, folder)
         sparse(rows, folder)

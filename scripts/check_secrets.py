@@ -154,8 +154,8 @@ def places(rows, small, folder):
                                            "--random-file", key], 2, b"", LINE),
         ("new, and the new password", ["passwd", small, "--password-file", secret, "--new-file", secret, "--new", "x",
                                        "--random-file", key], 2, b"", usage),
-        ("protect, for a command that isn't built", ["serve", small, "--password-file", secret, "--protect-file",
-                                                    secret], 2, b"", usage),
+        ("protect, for serve without clients", ["serve", small, "--password-file", secret, "--protect-file",
+                                                  secret], 2, b"", usage),
     ]:
         run(rows, f"secret file: {name}", words, status, out, line, small)
         rows.note(f"secret file: {name}: nothing is made", ["it is"] if os.path.exists(missing) else [])

@@ -19,7 +19,7 @@ from program_rows import LIMIT, LINES, PASSWORD, differences, differences_left, 
 FORMAT = f"format|N|--size=262656|--password=x|--random={HEX}"
 MISTAKES = [
     # commands
-    ("dog", 2, "no such command: dog; there are format, hide, info, cat, passwd, restore and expand"),
+    ("dog", 2, "no such command: dog; there are format, hide, info, cat, passwd, restore, expand and serve"),
     ("dog|C", 2, "no such command: dog"),
     ("Info|C|--password=x", 2, "no such command: Info"),
     ("inf|C|--password=x", 2, "no such command: inf"),
@@ -32,9 +32,9 @@ MISTAKES = [
     ("--version", 2, "no such command: --version"),
     ("-v", 2, "no such command: -v"),
     ("drill|7", 2, "drill isn't built yet"),
-    ("serve|C|--password=x", 2, "serve isn't built yet"),
-    ("serve|C|--password=x|--", 2, "serve isn't built yet"),
-    ("serve|C|--password=x|--|a|b", 2, "serve isn't built yet"),
+    ("serve|C|--password=x", 2, "serve needs the files of 1 to 16 clients: -- INPUT OUTPUT .."),
+    ("serve|C|--password=x|--" + "|/dev/null" * 34, 2, "serve needs the files of 1 to 16 clients"),
+    ("serve|C|--password=x|--", 2, "serve needs the files of 1 to 16 clients: -- INPUT OUTPUT .."),
     # positions
     ("info", 2, "PATH is missing"),
     ("info|--password=x", 2, "PATH is missing"),
@@ -156,6 +156,13 @@ MISTAKES = [
     ("info|C|--password=x|--|a", 2, "after `--` come pairs of files for the clients of serve"),
     ("info|C|--password=x|--|a|b", 2, "after `--` come pairs of files for the clients of serve"),
     ("serve|C|--password=x|--|a", 2, "after `--` come pairs of files for the clients of serve"),
+    ("serve|C|--password=x|--|-|a|-|b", 2, "after `--` come pairs of files for the clients of serve"),
+    ("serve|C|--password=x|--|P|-|P|-", 2, "after `--` come pairs of files for the clients of serve"),
+    ("serve|C|--password=x|--|nowhere|/dev/null", 7, "nowhere: open: No such file or directory"),
+    ("serve|C|--password=x|--|.|/dev/null", 7, ".: open: is a directory"),
+    ("serve|C|--password=x|--|P|.", 7, ".: open: Is a directory"),
+    ("serve|C|--password=x|--|C|/dev/null", 7, "C: a client's file is the container"),
+    ("serve|C|--password=x|--|P|C", 7, "C: a client's file is the container"),
     ("info|C|--password-file", 2, "no path: --password-file; one that begins with `-` is written --password-file=PATH"),
     ("info|C|--password-file|--pim=1", 2, "no path: --password-file"),
     ("info|C|--password-file|-x", 2, "no path: --password-file"),
@@ -168,6 +175,9 @@ MISTAKES = [
     ("cat|C|0|1|--password=wrong|--pim=1", 3, "a wrong password or PIM, another hash"),
     ("passwd|C|--password=wrong|--pim=1|--new=y|--random=H", 3, "a wrong password or PIM, another hash"),
     ("restore|C|--password=wrong|--pim=1|--random=H", 3, "a wrong password or PIM, another hash"),
+    ("serve|C|--password=wrong|--pim=1|--|P|/dev/null", 3, "a wrong password or PIM, another hash"),
+    ("serve|C|--password=correct horse|--pim=1|--protect=x|--protect-pim=1|--|P|/dev/null", 4,
+     "the standard header opens, but the protecting password and PIM open no hidden header"),
     ("info|E|--password=x|--pim=1", 5, "a container has 262656 to 1152921504606846976 bytes"),
     ("cat|C|0|2|--password=correct horse|--pim=1", 6, "the volume doesn't have these sectors; info tells its size"),
     ("format|N|--size=1|--password=x|--random=H", 6, "--size is a multiple of --sector, from 262144 plus one sector"),
@@ -233,7 +243,7 @@ def mistakes(rows, small, folder):
             faults.append(f"{reasons[0]!r} doesn't have {reason!r}")
         if any(secret in told for secret in (HEX, "zebra", "horse", "a" * 129)):
             faults.append("a secret is told")
-        if any(f"vcserve {name}" in told for name in ("serve", "drill")):
+        if "vcserve drill" in told:
             faults.append("there is a synopsis of a command that isn't built")
         if os.path.exists(os.path.join(folder, "N")):
             faults.append("a container is left")
@@ -246,7 +256,8 @@ def help_at_terminal(rows, folder):
     for words in ([], ["--help"], ["-h"], ["help"]):
         status, out, told = at_terminal(rows.program, words, folder)
         lines = told.splitlines()
-        wanted = [f"vcserve {name} " for name in ("format", "hide", "info", "cat", "passwd", "restore", "expand")]
+        wanted = [f"vcserve {name} " for name in ("format", "hide", "info", "cat", "passwd", "restore", "expand",
+                                                   "serve")]
         faults = [] if (status, out) == (2, b"") else [f"status {status}"]
         faults += [] if lines[:1] == ["vcserve: usage"] else ["no first line"]
         faults += [f"no synopsis of {name}" for name in wanted if not any(name in line for line in lines[1:])]

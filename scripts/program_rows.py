@@ -63,8 +63,9 @@ class Rows:
         kept = kept or (words[1] if len(words) > 1 else None)
         before = fingerprint(kept)
         try:
-            run = subprocess.run([self.program, *words], stdin=subprocess.DEVNULL, timeout=LIMIT,
-                                 **{"stdout": subprocess.PIPE, "stderr": subprocess.PIPE, **how})
+            run = subprocess.run([self.program, *words], timeout=LIMIT,
+                                 **{"stdin": subprocess.DEVNULL, "stdout": subprocess.PIPE, "stderr": subprocess.PIPE,
+                                    **how})
         except subprocess.TimeoutExpired:
             return self.note(name, [f"no end after {LIMIT} s"])
         faults = differences(run, status, out, LINES[status].format(length))

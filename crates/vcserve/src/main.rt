@@ -1,8 +1,9 @@
 //! The program `vcserve`: real files, real output, and nothing else.
 //!
 //! Options that name a file with a secret become the options that they stand for. The arguments then go to
-//! the top call of `vc_app` with the container that they name and with the standard output. The status that
-//! comes back is the exit status, and if it isn't 0, one line on the standard error says why.
+//! a top call of `vc_app` with the container that they name and with the standard output, and for `serve` with its
+//! clients' files. The status that comes back is the exit status, and if it isn't 0, one line on the standard error
+//! says why.
 //!
 //! A file that is opened takes the lowest descriptor that is free. Where the standard input, output or
 //! error is closed, that is its number, and what is printed would be written into a container. So
@@ -14,26 +15,31 @@ use std::fs::File;
 use std::io::IsTerminal;
 use std::process::ExitCode;
 use std::rt::{Env, Files};
+use std::sync::Wait;
 use std::thread::Threads;
 use std::{env, io};
 use vc_app::{Status, run_plain};
 use vc_host::StreamSink;
 use vc_outside::{Store, SureStore};
 
+mod clients;
 mod container;
 mod reasons;
 mod secrets;
+mod serve;
 mod synopsis;
 
+use crate::clients::{Streams, are_pairs};
 use crate::container::{Refusal, leave, opened, show_progress, tell_refusal, tell_trouble};
 use crate::reasons::explain;
 use crate::secrets::{SecretError, overwrite, overwrite_secrets, warn, with_secrets};
+use crate::serve::serve;
 
 /// How the program ends.
 #[derive(Clone, Copy)]
 enum Ending {
     Status(Status),
-    /// The files for clients are odd in number, or the command has no clients.
+    /// The files for clients aren't pairs, or the command has no clients.
     Files,
     /// An option that names a file with a secret has no path.
     NoPath,
@@ -63,10 +69,15 @@ impl Ending {
 fn main(rt: HostRuntime) -> ExitCode {
     let kept = keep_standard(&rt);
     let is_person = rt.stderr().is_terminal();
+    let streams = Streams {
+        stdin: rt.stdin(),
+        stdout: rt.stdout(),
+        stderr: rt.stderr(),
+    };
     let ending = match words(&rt) {
         Ok(words) => {
             let ending = if kept.is_ok() {
-                run(&rt, words.as_slice(), is_person)
+                run(&rt, streams, words.as_slice(), is_person)
             } else {
                 ended(&rt, Ending::Status(Status::DiskFault), &[], false)
             };
@@ -115,8 +126,9 @@ fn words<R: Env + AllocGlobal>(rt: &R) -> Result<Vec<String>, Status> {
 }
 
 // The arguments, with the secrets of the files that they name.
-fn run<R: Files<File = File> + Print + Eprint + AllocGlobal + Threads + Sync>(
+fn run<R: Files<File = File> + Print + Eprint + AllocGlobal + Threads + Wait + Sync>(
     rt: &R,
+    streams: Streams,
     named: &[String],
     is_person: bool,
 ) -> Ending {
@@ -129,7 +141,8 @@ fn run<R: Files<File = File> + Print + Eprint + AllocGlobal + Threads + Sync>(
         Err(error) => return ended(rt, Ending::from(error), command_in(named), is_person),
     };
     let words = command_in(all.as_slice());
-    let ending = run_command(rt, words, exposed.as_slice(), is_person);
+    let files = files_in(all.as_slice());
+    let ending = run_command(rt, streams, words, files, exposed.as_slice(), is_person);
     overwrite(all);
     ending
 }
@@ -141,10 +154,16 @@ fn command_in(all: &[String]) -> &[String] {
     &all[..end.unwrap_or(all.len())]
 }
 
+fn files_in(all: &[String]) -> &[String] {
+    match all.iter().position(|word| word.as_str() == "--") {
+        Some(end) => &all[end + 1..],
+        None => &[],
+    }
+}
+
 fn has_right_files(all: &[String]) -> bool {
-    let words = command_in(all);
-    let files = all.len().saturating_sub(words.len().saturating_add(1));
-    files % 2 == 0 && (files == 0 || is_serve(words))
+    let files = files_in(all);
+    files.is_empty() || is_serve(command_in(all)) && are_pairs(files)
 }
 
 fn is_serve(words: &[String]) -> bool {
@@ -157,9 +176,11 @@ fn is_serve(words: &[String]) -> bool {
 // The command that is read here names the container alone: its secrets are overwritten at once, and the top
 // call reads them anew. Warnings of exposed files come after the container was opened: until then the standard
 // error may be the container.
-fn run_command<R: Files<File = File> + Print + Eprint + AllocGlobal + Threads + Sync>(
+fn run_command<R: Files<File = File> + Print + Eprint + AllocGlobal + Threads + Wait + Sync>(
     rt: &R,
+    streams: Streams,
     words: &[String],
+    files: &[String],
     exposed: &[String],
     is_person: bool,
 ) -> Ending {
@@ -167,7 +188,9 @@ fn run_command<R: Files<File = File> + Print + Eprint + AllocGlobal + Threads + 
         Ok(mut command) => {
             overwrite_secrets(&mut command);
             match command.path() {
-                Some(path) => run_over_file(rt, &command, path, words, exposed, is_person),
+                Some(path) => run_over_file(
+                    rt, streams, &command, path, words, files, exposed, is_person,
+                ),
                 None => run_over_nothing(rt, words, exposed, is_person),
             }
         }
@@ -178,17 +201,22 @@ fn run_command<R: Files<File = File> + Print + Eprint + AllocGlobal + Threads + 
     }
 }
 
-fn run_over_file<R: Files<File = File> + Print + Eprint + AllocGlobal + Threads + Sync>(
+fn run_over_file<R: Files<File = File> + Print + Eprint + AllocGlobal + Threads + Wait + Sync>(
     rt: &R,
+    streams: Streams,
     command: &Command,
     path: &str,
     words: &[String],
+    files: &[String],
     exposed: &[String],
     is_person: bool,
 ) -> Ending {
     match opened(rt, command, path) {
         Ok(mut disk) => {
             warn(rt, exposed);
+            if let Command::Serve { .. } = command {
+                return serve(rt, streams, path, words, files, disk, is_person);
+            }
             if is_person {
                 // A terminal that can't be opened shows no progress.
                 let _ = show_progress(rt, command, &mut disk);

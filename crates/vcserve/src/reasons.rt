@@ -20,7 +20,7 @@ pub(crate) fn explain<R: Eprint + AllocGlobal>(
     match ending {
         Ending::Files => {
             eprintln!(rt;
-                "  after `--` come pairs of files for the clients of serve, which isn't built yet"
+                "  after `--` come pairs of files for the clients of serve, an input and an output each; `-` once in each place"
             )?;
             tell_synopsis(rt, command)
         }
@@ -51,6 +51,25 @@ pub(crate) fn explain<R: Eprint + AllocGlobal>(
             eprintln!(rt;
                 "  --backup tries the backup headers, --kind hidden the hidden volume's header alone"
             )
+        }
+        Ending::Status(Status::NoHidden) => {
+            eprintln!(rt;
+                "  the standard header opens, but the protecting password and PIM open no hidden header"
+            )?;
+            eprintln!(rt;
+                "  --protect-pim is the hidden volume's own PIM; without it there is none"
+            )
+        }
+        Ending::Status(Status::ClientCut(_)) => {
+            eprintln!(rt; "  that request had no effect; those before it had theirs")
+        }
+        Ending::Status(Status::ClientMagic(_, _)) => {
+            eprintln!(rt;
+                "  a request begins with 25609513; there is no handshake and no text before it"
+            )
+        }
+        Ending::Status(Status::ClientFault(_)) => {
+            eprintln!(rt; "  its input can't be read, or nothing takes the replies")
         }
         Ending::Status(Status::Length(_)) => {
             eprintln!(rt; "  a container has 262656 to 1152921504606846976 bytes")
@@ -97,7 +116,7 @@ fn tell_synopsis<R: Eprint>(rt: &R, command: &str) -> io::Result<()> {
 }
 
 fn is_unbuilt(command: &str) -> bool {
-    matches!(command, "serve" | "drill")
+    command == "drill"
 }
 
 fn explain_size<R: Eprint>(rt: &R, command: &str) -> io::Result<()> {
@@ -129,8 +148,11 @@ fn explain_usage<R: Eprint + AllocGlobal>(
     if is_help(words) {
         return tell_all(rt);
     }
-    // A command that is refused all the same isn't built.
+    // A command that is refused all the same isn't built, or has no clients.
     if read_words(rt.alloc(), words).is_ok() {
+        if command == "serve" {
+            eprintln!(rt; "  serve needs the files of 1 to 16 clients: -- INPUT OUTPUT ..")?;
+        }
         return tell_synopsis(rt, command);
     }
     match reason_of(rt.alloc(), words) {
@@ -146,7 +168,7 @@ fn tell_reason<R: Eprint>(rt: &R, reason: Reason<'_>) -> io::Result<()> {
         Reason::NoCommand(word) => {
             let name = name_in(word);
             eprintln!(rt;
-                "  no such command: {name}; there are format, hide, info, cat, passwd, restore and expand"
+                "  no such command: {name}; there are format, hide, info, cat, passwd, restore, expand and serve"
             )
         }
         Reason::NoOption(word, Some(nearest)) => {

@@ -18,12 +18,15 @@ pub(crate) fn synopsis_of(name: &str) -> Option<&'static str> {
         "expand" => {
             "vcserve expand PATH --size N --password P --random HEX --no-hidden [--pim N]"
         }
+        "serve" => {
+            "vcserve serve PATH --password P [--pim N] [--kind KIND] [--backup] [--protect P] [--protect-pim N] [--helpers N] [--workers N] -- INPUT OUTPUT [INPUT OUTPUT ..]"
+        }
         _ => return None,
     };
     Some(text)
 }
 
 /// The commands that are built.
-pub(crate) const COMMANDS: [&str; 7] = [
-    "format", "hide", "info", "cat", "passwd", "restore", "expand",
+pub(crate) const COMMANDS: [&str; 8] = [
+    "format", "hide", "info", "cat", "passwd", "restore", "expand", "serve",
 ];
