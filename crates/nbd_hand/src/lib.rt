@@ -27,3 +27,5 @@ mod input;
 mod option;
 mod output;
 mod reply;
+#[cfg(test)]
+mod tests;
