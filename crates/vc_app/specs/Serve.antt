@@ -70,6 +70,7 @@ asked_of (serve path password pim kind protect helpers workers) = Some (record {
   access = record { password = password; pim = pim; kind = kind };
   protect = protecting kind protect;
   helpers = helpers;
+  workers = workers;
 })
 asked_of _ = None
 

@@ -174,6 +174,7 @@ fn asked_of<I, O>(command: Command, clients: &Vec<Client<I, O>>) -> Option<Asked
     ensures pim { IfSome result (λ a. IsPim a.access.pim) }
     ensures protect_pim { IfSome result (λ a. IfSome a.protect (λ p. IsPim p.pim)) }
     ensures helpers { IfSome result (λ a. a.helpers ≤ 8) }
+    ensures workers { IfSome result (λ a. (1 ≤ a.workers) × (a.workers ≤ 8)) }
 {
     Asked::of(command, clients.len())
 }
@@ -230,6 +231,7 @@ fn serve_asked<
     requires pim { IsPim asked.now.access.pim }
     requires protect_pim { IfSome asked.now.protect (λ p. IsPim p.pim) }
     requires helpers { asked.now.helpers ≤ 8 }
+    requires workers { (1 ≤ asked.now.workers) × (asked.now.workers ≤ 8) }
     ensures { Kept ⟦<D as Store>⟧ ⟦<Keyed as UnitCipher>⟧ ⟦<I as Source>⟧ ⟦<O as Sink>⟧
         (Some asked.now) (seen ⟦<D as Store>⟧ ⟦<P as Sink>⟧ disk out)
         (option_map (λ p. view p.seat) result.pass) (record {
@@ -246,7 +248,7 @@ fn serve_asked<
 {
     let mut disk = disk;
     let at_start = disk.faults();
-    match open_asked(rt, alloc, &mut disk, asked) {
+    match open_asked(rt, alloc, &mut disk, asked, gate) {
         Ok((opened, protect)) => serve_opened(
             rt,
             alloc,

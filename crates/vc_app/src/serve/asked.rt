@@ -13,12 +13,14 @@ use kdf_hmac::Password;
 /// How many clients are served at most.
 const MOST_CLIENTS: usize = 16;
 
-/// What `serve` is asked: the header to open, the hidden one to protect, and how many helpers take fragments.
+/// What `serve` is asked: the header to open, the hidden one to protect, how many helpers take fragments, and how many
+/// workers derive the keys of headers.
 #[derive(Drop)]
 pub struct Asked {
     pub access: Access,
     pub protect: Option<Access>,
     pub helpers: u32,
+    pub workers: u32,
 }
 
 impl Asked {
@@ -31,6 +33,7 @@ impl Asked {
         ensures pim { IfSome result (λ a. IsPim a.access.pim) }
         ensures protect_pim { IfSome result (λ a. IfSome a.protect (λ p. IsPim p.pim)) }
         ensures helpers { IfSome result (λ a. a.helpers ≤ 8) }
+        ensures workers { IfSome result (λ a. (1 ≤ a.workers) × (a.workers ≤ 8)) }
     {
         if clients < 1 || clients > MOST_CLIENTS {
             return None;
@@ -43,7 +46,7 @@ impl Asked {
                 kind,
                 protect,
                 helpers,
-                workers: _workers,
+                workers,
             } => {
                 let access = Access {
                     password,
@@ -54,6 +57,7 @@ impl Asked {
                     access,
                     protect: protecting(kind, protect),
                     helpers,
+                    workers,
                 })
             }
             _ => None,
