@@ -1,4 +1,4 @@
-use Rattle.std.proofs.Common.{◌≡◌, Err, refl, ap, subst, arith}
+use Rattle.std.proofs.Common.{◌≡◌, Err, refl, ap, subst}
 use Rattle.rand_chacha.specs.ChaCha.{ChaCha}
 use Rattle.vc_outside.specs.Told.{Both}
 use Rattle.volume_format.specs.Formatted.{formatted}

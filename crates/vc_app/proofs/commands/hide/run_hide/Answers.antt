@@ -1,4 +1,4 @@
-use Rattle.std.proofs.Common.{◌≡◌, ℕ, inr, List, Err, refl, ap, subst, arith}
+use Rattle.std.proofs.Common.{◌≡◌, ℕ, inr, List, Err, refl, ap, subst}
 use Rattle.std.specs.Prelude.{⊤}
 use Rattle.rand_chacha.specs.ChaCha.{ChaCha}
 use Rattle.vc_outside.specs.Told.{Both, Grows}

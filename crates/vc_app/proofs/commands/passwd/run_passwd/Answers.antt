@@ -1,4 +1,4 @@
-use Rattle.std.proofs.Common.{◌∙◌, ◌⊎◌, ℕ, [], false, inl, inr, List, Option, refl, ap₂, subst, arith}
+use Rattle.std.proofs.Common.{◌∙◌, ◌⊎◌, ℕ, [], false, inr, List, Option, refl, ap₂, subst, arith}
 use Rattle.std.specs.Prelude.{MatchOption}
 use Rattle.vc_base.specs.Faults.{Rose}
 use Rattle.rand_chacha.specs.ChaCha.{ChaCha, of_seed}
