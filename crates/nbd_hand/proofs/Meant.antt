@@ -6,7 +6,7 @@ use Rattle.std.proofs.Common.{◌≡◌, ◌<◌, ℕ, ◌+◌, List, [], ◌∷
 use Rattle.std.proofs.lemmas.List.{append-nil}
 use Rattle.std.proofs.Math.Seq.{take-append-add}
 use Rattle.vc_outside.specs.Told.{Both, Grows, Shrinks}
-use Rattle.nbd_hand.specs.Hand.{before, Does, ends, Hand, IsDone}
+use Rattle.nbd_hand.specs.Hand.{before, Does, ends, Hand, IsDone, IsPrefix}
 use Rattle.nbd_hand.specs.Laws.Onward.{Onward}
 use Rattle.nbd_hand.specs.Laws.Taken.{end_of, Stops}
 use Rattle.nbd_hand.specs.declared.end.HandEnd.{HandEnd}
@@ -17,14 +17,21 @@ use Rattle.nbd_hand.specs.declared.input.Stop.TheVariants.{Ended, Failed}
 use Rattle.nbd_hand.proofs.Streams.{grows_none, grows_twice, shrinks_none, shrinks_twice}
 
 -- more was written before
+prefix_before : (ws ys xs : List ℕ) → IsPrefix xs ys → IsPrefix (ws ++ xs) (ws ++ ys)
+prefix_before ws ys xs is = (
+  length ws + is.0,
+  omega (arith, is.1, length-append ws ys),
+  ap (λ (s : List ℕ). ws ++ s) is.2 ∙ sym (take-append-add ws ys is.0),
+)
+
 done_before : (ws : List ℕ) (h : Hand) (xs : List ℕ) (how : HandEnd) (rest : List ℕ) → IsDone h xs how rest → IsDone (before ws h) (ws ++ xs) how rest
 done_before ws h xs end.Go rest is = ap (before ws) is
 done_before ws h xs end.Aborted rest is = ap (before ws) is
 done_before ws h xs end.Cut rest is = ap (before ws) is
 done_before ws h xs (end.Refused r) rest is = ap (before ws) is
 done_before ws h xs end.ReadFault rest is = ap (λ (s : List ℕ). ws ++ s) is
-done_before ws h xs end.WriteFault rest is = (length ws + is.0, ap (λ (s : List ℕ). ws ++ s) is.1 ∙ sym (take-append-add ws h.written is.0))
-done_before ws h xs end.NoMemory rest is = (length ws + is.0, ap (λ (s : List ℕ). ws ++ s) is.1 ∙ sym (take-append-add ws h.written is.0))
+done_before ws h xs end.WriteFault rest is = prefix_before ws h.written xs is
+done_before ws h xs end.NoMemory rest is = prefix_before ws h.written xs is
 
 done_on : (f g : List ℕ → Hand) (taken ws : List ℕ) (bytes xs : List ℕ) (how : HandEnd) (rest : List ℕ) → f (taken ++ bytes) ≡ before ws (g bytes)
     → IsDone (g bytes) xs how rest → IsDone (f (taken ++ bytes)) (ws ++ xs) how rest

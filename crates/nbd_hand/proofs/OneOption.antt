@@ -1,5 +1,5 @@
 -- What one option did: the next one follows, or the handshake ended.
-use Rattle.std.proofs.Common.{◌≡◌, ℕ, suc, ◌==◌, Bool, true, false, List, [], ◌++◌, take, Option, Some, None, IfSome, if◌then◌else◌, inl, inr, refl, sym, ap, ◌∙◌, subst, arith}
+use Rattle.std.proofs.Common.{◌≡◌, ℕ, suc, ◌==◌, Bool, true, false, List, [], ◌++◌, length, take, Option, Some, None, IfSome, if◌then◌else◌, inl, inr, length-append, refl, sym, ap, ◌∙◌, subst, arith}
 use Rattle.std.specs.Prelude.{is_some, IsNone}
 use Rattle.std.proofs.lemmas.Bool.{false≢true}
 use Rattle.std.proofs.lemmas.List.{append-nil, take-append-le}
@@ -35,6 +35,7 @@ module _ (f : List ℕ → Hand) (a b h i : Option (List ℕ)) (xs reply : List 
   prefix : (rest : List ℕ) → IsPrefix (take part.0 reply) (f (xs ++ rest)).written
   prefix rest = (
     part.0,
+    omega (arith, part.1, ap length (is rest), length-append reply (tail rest)),
     sym (take-append-le part.0 reply (tail rest) (omega (arith, part.1))) ∙ ap (take part.0) (sym (is rest)),
   )
 

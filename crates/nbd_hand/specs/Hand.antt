@@ -4,10 +4,11 @@
 -- Hand                        all that is written, how the handshake ends, and the bytes that it leaves to the session
 -- options size zeros n bytes  at most n options more
 -- hand size bytes             the handshake, of an export of `size` bytes
+-- IsPrefix xs ys              xs is the start of ys, but not all of it
 -- IsDone h written how rest   h was done until the end `how`. If the outside stopped it, it was done in part.
 -- Shakes ..                   a handshake took bytes of its source, gave bytes to its sink, and ended so. If the source's
 --                             bytes are known, this is the handshake of all of them, unless the source failed.
-use Rattle.std.specs.Prelude.{◌≡◌, ℕ, zero, suc, nat_lt, Bool, List, [], ◌++◌, length, take, drop, Option, if◌then◌else◌}
+use Rattle.std.specs.Prelude.{◌≡◌, ◌<◌, ℕ, zero, suc, nat_lt, Bool, List, [], ◌++◌, length, take, drop, Option, if◌then◌else◌}
 use Rattle.vc_outside.specs.Told.{Both, Grows, Shrinks}
 use Rattle.nbd_hand.specs.Options.{Step, next, last, step}
 use Rattle.nbd_hand.specs.Wire.{field, greeting}
@@ -45,7 +46,7 @@ abbrev pub hand : ℕ → List ℕ → Hand
 hand size bytes = before greeting (after_greeting size bytes)
 
 abbrev pub IsPrefix : List ℕ → List ℕ → Type 0
-IsPrefix xs ys = (n : ℕ) × (xs ≡ take n ys)
+IsPrefix xs ys = (n : ℕ) × (n < length ys) × (xs ≡ take n ys)
 
 abbrev pub IsDone : Hand → List ℕ → HandEnd → List ℕ → Type 0
 IsDone h written ReadFault rest = written ≡ h.written
