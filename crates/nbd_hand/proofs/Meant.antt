@@ -29,7 +29,7 @@ done_before ws h xs end.Go rest is = ap (before ws) is
 done_before ws h xs end.Aborted rest is = ap (before ws) is
 done_before ws h xs end.Cut rest is = ap (before ws) is
 done_before ws h xs (end.Refused r) rest is = ap (before ws) is
-done_before ws h xs end.ReadFault rest is = ap (λ (s : List ℕ). ws ++ s) is
+done_before ws h xs end.ReadFault rest is = (ap (λ (s : List ℕ). ws ++ s) is.0, is.1)
 done_before ws h xs end.WriteFault rest is = prefix_before ws h.written xs is
 done_before ws h xs end.NoMemory rest is = prefix_before ws h.written xs is
 
@@ -108,7 +108,10 @@ stops_does f n a b h Failed stops cuts = record {
   written = [];
   input = stops.given;
   output = grows_none h;
-  alone = sym (ap (λ (x : Hand). x.written) (cuts stops.bytes stops.few));
+  alone = (
+    sym (ap (λ (x : Hand). x.written) (cuts stops.bytes stops.few)),
+    ap (λ (x : Hand). x.last) (cuts stops.bytes stops.few),
+  );
   whole = λ known. absurd (known refl);
 }
 

@@ -49,7 +49,8 @@ abbrev pub IsPrefix : List ℕ → List ℕ → Type 0
 IsPrefix xs ys = (n : ℕ) × (n < length ys) × (xs ≡ take n ys)
 
 abbrev pub IsDone : Hand → List ℕ → HandEnd → List ℕ → Type 0
-IsDone h written ReadFault rest = written ≡ h.written
+-- the handshake of the bytes that were taken isn't over: it goes on after them
+IsDone h written ReadFault rest = (written ≡ h.written) × (h.last ≡ Cut)
 IsDone h written WriteFault rest = IsPrefix written h.written
 IsDone h written NoMemory rest = IsPrefix written h.written
 IsDone h written how rest = h ≡ record { written = written; last = how; rest = rest }
