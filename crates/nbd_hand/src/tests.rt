@@ -1,7 +1,7 @@
 //! Handshakes, by hand from the NBD protocol: "Newstyle negotiation", "Option types" and "Option reply types".
 use crate::{HandEnd, Refusal, handshake};
 use std::alloc::{AllocError, Global};
-use vc_outside::{Client, MemSource, Source, SureSink};
+use vc_outside::{Client, MemSink, MemSource, Source, SureSink};
 
 const GREETING: &[u8] = b"\x4e\x42\x44\x4d\x41\x47\x49\x43\x49\x48\x41\x56\x45\x4f\x50\x54\x00\x03";
 
@@ -59,14 +59,18 @@ fn ends(
     if link.sink.bytes() != wrote {
         return Ok(None);
     }
+    Ok(Some((end, left_of(&mut link.source))))
+}
+
+fn left_of(source: &mut MemSource) -> usize {
     let mut rest = [0u8; 64];
     let mut left = 0;
     for _ in 0..64 {
-        if let Ok(n) = link.source.read(&mut rest) {
+        if let Ok(n) = source.read(&mut rest) {
             left = n.saturating_add(left);
         }
     }
-    Ok(Some((end, left)))
+    left
 }
 
 // Each is the only option of a client that wants no zeros. The last three bytes are no option.
@@ -687,6 +691,129 @@ fn the_last_of_1024_options_is_answered(rt: HostRuntime) -> Result<(), AllocErro
             ends(rt.alloc(), &bytes, 4096, &wrote)?,
             Some((end, 16)),
             "last {last}"
+        );
+    }
+    Ok(())
+}
+
+// The flags, options 3 and 2: they are read by five calls, of 4 bytes and then 8 each.
+const CLIENT: &[u8] =
+    b"\x00\x00\x00\x03IHAVEOPT\x00\x00\x00\x03\x00\x00\x00\x00IHAVEOPT\x00\x00\x00\x02\x00\x00\x00\x00";
+
+// The greeting, the replies to option 3, the reply to option 2: they are written by three calls, of 18, 44 and 20 bytes.
+const REPLIES: &[u8] =
+    b"NBDMAGICIHAVEOPT\x00\x03\x00\x03\xe8\x89\x04\x55\x65\xa9\x00\x00\x00\x03\x00\x00\x00\x02\x00\x00\x00\x04\x00\x00\x00\x00\x00\x03\xe8\x89\x04\x55\x65\xa9\x00\x00\x00\x03\x00\x00\x00\x01\x00\x00\x00\x00\x00\x03\xe8\x89\x04\x55\x65\xa9\x00\x00\x00\x02\x00\x00\x00\x01\x00\x00\x00\x00";
+
+// How that handshake ends if these calls fail, how many bytes it wrote and how many it left, if what it wrote is the
+// start of the replies.
+fn fails(
+    alloc: Global,
+    reads: &[u64],
+    writes: &[u64],
+) -> Result<Option<(HandEnd, usize, usize)>, AllocError> {
+    let bytes = Vec::from_slice(alloc, CLIENT)?;
+    let mut link = Client {
+        source: MemSource::new(bytes, 4096, Vec::from_slice(alloc, reads)?),
+        sink: MemSink::new(alloc, Vec::from_slice(alloc, writes)?),
+    };
+    let end = handshake(&mut link, 0xc0000);
+    if !REPLIES.starts_with(link.sink.bytes()) {
+        return Ok(None);
+    }
+    let wrote = link.sink.bytes().len();
+    Ok(Some((end, wrote, left_of(&mut link.source))))
+}
+
+// No later call is made: of the replies nothing more is written, and of the options none is read.
+#[test]
+fn a_handshake_ends_at_the_call_that_fails(rt: HostRuntime) -> Result<(), AllocError> {
+    let cases = [
+        (
+            "the flags",
+            [0].as_slice(),
+            [].as_slice(),
+            HandEnd::ReadFault,
+            18,
+            36,
+        ),
+        (
+            "the first magic",
+            [1].as_slice(),
+            [].as_slice(),
+            HandEnd::ReadFault,
+            18,
+            32,
+        ),
+        (
+            "the first number",
+            [2].as_slice(),
+            [].as_slice(),
+            HandEnd::ReadFault,
+            18,
+            24,
+        ),
+        (
+            "the second magic",
+            [3].as_slice(),
+            [].as_slice(),
+            HandEnd::ReadFault,
+            62,
+            16,
+        ),
+        (
+            "the second number",
+            [4].as_slice(),
+            [].as_slice(),
+            HandEnd::ReadFault,
+            62,
+            8,
+        ),
+        (
+            "a sixth read",
+            [5].as_slice(),
+            [].as_slice(),
+            HandEnd::Aborted,
+            82,
+            0,
+        ),
+        (
+            "the greeting",
+            [].as_slice(),
+            [0].as_slice(),
+            HandEnd::WriteFault,
+            0,
+            36,
+        ),
+        (
+            "the first reply",
+            [].as_slice(),
+            [1].as_slice(),
+            HandEnd::WriteFault,
+            18,
+            16,
+        ),
+        (
+            "the second reply",
+            [].as_slice(),
+            [2].as_slice(),
+            HandEnd::WriteFault,
+            62,
+            0,
+        ),
+        (
+            "a fourth write",
+            [].as_slice(),
+            [3].as_slice(),
+            HandEnd::Aborted,
+            82,
+            0,
+        ),
+    ];
+    for (case, reads, writes, end, wrote, left) in cases {
+        assert_eq!(rt;
+            fails(rt.alloc(), reads, writes)?,
+            Some((end, wrote, left)),
+            "{case}"
         );
     }
     Ok(())
