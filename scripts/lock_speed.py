@@ -3,8 +3,8 @@
 
   lock_speed.py
 
-No program of the repository uses the lock. So a copy of its crates is made in a temporary folder, with
-a program beside them that takes turns with an empty act, and `rt run` proves and builds it.
+A copy of the lock's crates is made in a temporary folder, with a program beside them that takes turns with
+an empty act, and `rt run` proves and builds it.
 
 turns     two and eight threads take 200,000 turns each; several runs, lock and mutex in turn, by the
           clock, as turns a second and as a ratio, of the median run and of the best. In the best one
