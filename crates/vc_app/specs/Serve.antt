@@ -21,7 +21,7 @@ use Rattle.vc_layout.specs.declared.kind.Kind.{Kind}
 use Rattle.vc_layout.specs.declared.kind.Kind.TheVariants.{Any, StandardOnly, HiddenOnly, AnyBackup, StandardBackup, HiddenBackup}
 use Rattle.vc_header.specs.Volume.{IsVolume}
 use Rattle.vc_header.specs.declared.fields.Fields.{Fields}
-use Rattle.vc_outside.specs.Crash.{IsLasting}
+use Rattle.vc_outside.specs.Crash.{IsLasting, Outcomes, Stays}
 use Rattle.vc_outside.specs.Told.{Grows, GrowsByFront}
 use Rattle.vc_outside.specs.declared.source.Client.{Client}
 use Rattle.vc_outside.specs.declared.store.Store.{Ghosts as StoreGhosts}
@@ -248,12 +248,15 @@ module _ {S C : Type 0} (store : StoreGhosts S) (cipher : CipherGhosts C) where
     pub range : Protects a.protect old.image base.guard.range
     pub pending : base.pending ≡ []
 
-  -- The history of the served volume, after which the store was left with nothing pending. Then it was synced.
+  -- The history of the served volume, after which the store was left with nothing pending. From then to the end of the
+  -- call its bytes stay the same, and a crash leaves nothing more than at that moment.
   pub record IsHistory (v : View (State S C) Entry) (new : Seen) : Type 0 where
     pub left : S
     pub state : IsLeft store cipher v left
     pub image : new.image ≡ store.image left
     pub size : new.size ≡ store.size left
+    pub crash : Outcomes store.tells (store.moment left) new.moment (store.left_since left) new.left_since
+        (store.may_leave left) new.may_leave Stays
     pub later : store.faults left ≤ new.disk_faults
 
 module _ {S C I O : Type 0} (store : StoreGhosts S) (cipher : CipherGhosts C) (source : SourceGhosts I) (sink : SinkGhosts O) where

@@ -9,7 +9,7 @@ ghost use Rattle.io_queue.specs.Closed.{IsLeft};
 ghost use Rattle.io_queue.specs.Pass.{IsPass, NothingOpen};
 ghost use Rattle.vc_header.specs.Header.{Meets};
 ghost use Rattle.vc_layout.specs.Layout.{IsContainerLength, IsSectorSize};
-ghost use Rattle.vc_outside.specs.Crash.{IsLasting};
+ghost use Rattle.vc_outside.specs.Crash.{IsLasting, Outcomes, Stays};
 ghost use Rattle.vc_outside.specs.Told.{Grows, GrowsByFront};
 ghost use Rattle.vc_app.specs.Laws.Opening.{IsFirst, Opening, RanFrom};
 ghost use Rattle.vc_app.specs.Promise.{seen};
@@ -429,6 +429,8 @@ fn end_call<D: Store, P: Sink>(
     ensures out_fault { HasCause (P.faults out.old) (P.faults out.new) (result ≡ Status.OutFault) }
     ensures image { D.image disk.new ≡ D.image disk.old }
     ensures size { D.size disk.new ≡ D.size disk.old }
+    ensures crash { Outcomes D.tells (D.moment disk.old) (D.moment disk.new) (D.left_since disk.old)
+        (D.left_since disk.new) (D.may_leave disk.old) (D.may_leave disk.new) Stays }
 {
     match disk.sync() {
         Ok(()) => write_ends(alloc, out, ends, replies),

@@ -34,6 +34,7 @@ returns-in-Ok g c =
           state = k.left;
           image = s.image;
           size = s.size;
+          crash = s.crash;
           later = s.disk_fault.later;
         };
         outcome = inl (record {
