@@ -9,6 +9,7 @@ mod faults;
 mod format;
 mod hide;
 mod misses;
+mod serve;
 mod stops;
 
 use crate::{Status, run_plain};
