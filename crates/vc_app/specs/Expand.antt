@@ -3,7 +3,8 @@
 --
 -- If the password opens the standard header to the volume's bytes in all that a crash might leave when the call began,
 -- then after a crash at any moment of the call it opens that header still, or the new backup, which has the new fields.
--- Both open a volume that begins with these bytes.
+-- Both open a volume that begins with these bytes; and its array, which is all that `cat` can write of it, begins with
+-- the old array.
 --
 -- is_expandable len size s      a container of len bytes can get `size` bytes, if its volume's sectors have s bytes
 -- new_fields command o          the fields of both new headers
@@ -17,7 +18,7 @@ use Rattle.vc_header.specs.declared.fields.Fields.{Fields}
 use Rattle.header_seal.specs.declared.opened.Opened.{Opened}
 use Rattle.header_change.specs.Moments.{After}
 use Rattle.vol_expand.specs.Expanded.{expanded, expanded_fields}
-use Rattle.vol_expand.specs.Stops.{Carries, Expands, Holds, IsOpened, PartsStay, volume_of}
+use Rattle.vol_expand.specs.Stops.{Carries, Expands, Holds, IsOpened, Keeps, PartsStay, volume_of}
 use Rattle.vc_app.specs.declared.commands.expand.Expand.{Expand}
 use Rattle.vc_app.specs.declared.commands.expand.ExpandError.{ExpandError}
 use Rattle.vc_app.specs.declared.commands.expand.ExpandError.TheVariants as expand
@@ -49,8 +50,8 @@ outcome command random o image =
 abbrev pub DataStays : Expand → Opened → List ℕ → (List ℕ → Type 0) → List ℕ → OfHeader → Type 0
 DataStays command o image could c P =
     ((d : List ℕ) → could d → Holds P Standard (sealing command.access o) o.fields (volume_of o.fields image) d)
-    → Holds P Standard (sealing command.access o) o.fields (volume_of o.fields image) c
-    ⊎ Holds P BackupStandard (sealing command.access o) (new_fields command o) (volume_of o.fields image) c
+    → Keeps P Standard (sealing command.access o) o.fields o.fields image c
+    ⊎ Keeps P BackupStandard (sealing command.access o) o.fields (new_fields command o) image c
 
 pub record AtStop (command : Expand) (o : Opened) (image : List ℕ) (could : List ℕ → Type 0) (c : List ℕ) : Type 0 where
   pub differs : After could

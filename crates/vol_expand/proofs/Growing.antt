@@ -1,5 +1,5 @@
 -- The fields of a grown volume: they meet the rules in the longer container.
-use Rattle.std.proofs.Common.{◌≡◌, ◌≤◌, ℕ, ◌+◌, ◌-◌, List, subst, arith}
+use Rattle.std.proofs.Common.{◌≡◌, ◌≤◌, ◌<◌, ℕ, ◌+◌, ◌-◌, List, subst, arith}
 use Rattle.vc_layout.specs.Laws.Sectors.{at_least_a_unit, group_whole, whole_without}
 use Rattle.vc_layout.specs.declared.slots.Slot.{Slot}
 use Rattle.vc_layout.specs.declared.slots.Slot.TheVariants.{Standard, BackupStandard}
@@ -16,6 +16,9 @@ long_enough f len m =
 
 pub ends_before : (f : Fields) (len : ℕ) → Meets f Standard len → f.start + f.volume_size ≤ len - 131072
 ends_before f len m = omega (arith, m.before_backups)
+
+pub some_bytes : (f : Fields) (len : ℕ) → Meets f Standard len → 0 < f.volume_size
+some_bytes f len m = omega (arith, at_least_a_unit f.sector m.sector, m.not_empty)
 
 pub meets_longer : (f : Fields) (len size : ℕ) → len ≤ size → Meets f Standard len → Meets f Standard size
 meets_longer f len size longer m = record {

@@ -8,5 +8,7 @@ pub mod Headers
 pub mod Growing
 -- what a crash may leave at each moment
 pub mod Moments
+-- the array of a volume that begins with the old one's bytes
+pub mod Arrays
 -- what then opens
 pub mod Opening

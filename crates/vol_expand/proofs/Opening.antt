@@ -1,5 +1,5 @@
 -- What opens after a crash at any moment of the call: the old header or the new backup, to a volume that begins with
--- the old volume's bytes.
+-- the old volume's bytes, and to an array that begins with the old one.
 use Rattle.std.proofs.Common.{◌≡◌, ◌≤◌, ◌<◌, ◌⊎◌, ℕ, ◌+◌, ◌-◌, Bool, true, List, length, take, drop, Option, Some, None, sym, ap, ◌∙◌, subst, inl, inr, arith, length-drop, length-take-le}
 use Rattle.std.specs.Prelude.{IfSome}
 use Rattle.std.proofs.lemmas.List.{length-take, take-take}
@@ -13,8 +13,9 @@ use Rattle.vc_layout.specs.declared.slots.Slot.{Slot}
 use Rattle.volume_format.specs.Formatted.{Sealing}
 use Rattle.header_change.specs.Moments.{After}
 use Rattle.vol_expand.specs.Expanded.{expanded_fields, IsExpandable}
-use Rattle.vol_expand.specs.Stops.{Carries, Expands, HasNewBackup, Holds, IsOpened, IsRead, OldOrNew, volume_of}
-use Rattle.vol_expand.proofs.Growing.{ends_before, long_enough}
+use Rattle.vol_expand.specs.Stops.{Carries, Expands, HasNewBackup, Holds, IsOpened, IsRead, Keeps, OldOrNew, volume_of}
+use Rattle.vol_expand.proofs.Arrays.{keeps, length-volume}
+use Rattle.vol_expand.proofs.Growing.{ends_before, long_enough, some_bytes}
 
 -- what stays of the standard header, and what the new backup has of it
 pub record Lasts (P : Slot → Sealing → Fields → List ℕ → Type 0) (f : Fields) (size : ℕ) : Type 0 where
@@ -106,19 +107,11 @@ part_inside n at xs d long some is =
 
 module _ (P : Slot → Sealing → Fields → List ℕ → Type 0) (f : Fields) (len size : ℕ) (lasts : Lasts P f size)
     (can : IsExpandable len size f.sector) (meets : Meets f Standard len) where
-  some : 0 < f.volume_size
-  some = omega (arith, at_least_a_unit f.sector meets.sector, meets.not_empty)
-
-  length-data : (b : List ℕ) → length b ≡ len → length (volume_of f b) ≡ f.volume_size
-  length-data b whole =
-      length-take-le f.volume_size (drop f.start b)
-      (omega (arith, length-drop f.start b, whole, ends_before f len meets, some))
-
   module _ (b d c : List ℕ) (k old : Sealing) (whole : length b ≡ len)
       (there : Holds P Standard old f (volume_of f b) d)
       (step : Expands (len - 131072) size k (expanded_fields size f) d c) where
     inside : f.start + f.volume_size ≤ length d
-    inside = part_inside f.volume_size f.start (volume_of f b) d (length-data b whole) some there.begins
+    inside = part_inside f.volume_size f.start (volume_of f b) d (length-volume f len b meets whole) (some_bytes f len meets) there.begins
 
     same : volume_of f c ≡ volume_of f d
     same = step.parts f.start f.volume_size (omega (arith, meets.behind_headers)) (ends_before f len meets) inside
@@ -130,8 +123,8 @@ module _ (P : Slot → Sealing → Fields → List ℕ → Type 0) (f : Fields) 
     begins_new : take (length (volume_of f b)) (volume_of (expanded_fields size f) c) ≡ volume_of f b
     begins_new =
         let fits : length (volume_of f b) ≤ size - 131072 - f.start
-        = omega (arith, length-data b whole, ends_before f len meets, can.longer) in
-        let fits_old : length (volume_of f b) ≤ f.volume_size = omega (arith, length-data b whole) in
+        = omega (arith, length-volume f len b meets whole, ends_before f len meets, can.longer) in
+        let fits_old : length (volume_of f b) ≤ f.volume_size = omega (arith, length-volume f len b meets whole) in
         take-take (length (volume_of f b)) (size - 131072 - f.start) (drop f.start c) fits
         ∙ sym (take-take (length (volume_of f b)) f.volume_size (drop f.start c) fits_old)
         ∙ still_begins
@@ -150,6 +143,16 @@ module _ (P : Slot → Sealing → Fields → List ℕ → Type 0) (f : Fields) 
       })
     ]
 
+  -- the same of the arrays
+  with_arrays : (b c : List ℕ) (k old : Sealing) → length b ≡ len
+      → Holds P Standard old f (volume_of f b) c ⊎ Holds P BackupStandard k (expanded_fields size f) (volume_of f b) c
+      → Keeps P Standard old f f b c ⊎ Keeps P BackupStandard k f (expanded_fields size f) b c
+  with_arrays b c k old whole holds = elim holds [
+    | inl stay ↦ inl (keeps P Standard old f f.volume_size f.encrypted len b c meets whole (omega arith) stay)
+    | inr new ↦ inr (keeps P BackupStandard k f (size - 131072 - f.start) (size - 131072 - f.start) len b c meets whole
+        (omega (arith, ends_before f len meets, can.longer)) new)
+  ]
+
   pub old_or_new : (k : Sealing) (tells : Bool) (image : Option (List ℕ)) (could left : List ℕ → Type 0)
       → IfSome image (λ b. length b ≡ len)
       → (tells ≡ true → (c : List ℕ) → left c → could c ⊎ After could
@@ -157,16 +160,16 @@ module _ (P : Slot → Sealing → Fields → List ℕ → Type 0) (f : Fields) 
       → OldOrNew tells image could left P k f size
   old_or_new k tells None could left whole since modelled = tt
   old_or_new k tells (Some b) could left whole since modelled = λ old at_start c is_left.
-      elim (since modelled c is_left) [
+      with_arrays b c k old whole (elim (since modelled c is_left) [
         | inl there ↦ inl (at_start c there)
         | inr after ↦ after_step b after.0 c k old whole (at_start after.0 after.1) after.2
-      ]
+      ])
 
 -- a call that did nothing
-pub still_old : (P : Slot → Sealing → Fields → List ℕ → Type 0) (k : Sealing) (f : Fields) (size : ℕ) (tells : Bool)
-    (image : Option (List ℕ)) (could left : List ℕ → Type 0)
+pub still_old : (P : Slot → Sealing → Fields → List ℕ → Type 0) (k : Sealing) (f : Fields) (len size : ℕ) (tells : Bool)
+    (image : Option (List ℕ)) (could left : List ℕ → Type 0) → Meets f Standard len → IfSome image (λ b. length b ≡ len)
     → (tells ≡ true → (c : List ℕ) → left c → could c)
     → OldOrNew tells image could left P k f size
-still_old P k f size tells None could left only modelled = tt
-still_old P k f size tells (Some b) could left only modelled = λ old at_start c is_left.
-    inl (at_start c (only modelled c is_left))
+still_old P k f len size tells None could left meets whole only modelled = tt
+still_old P k f len size tells (Some b) could left meets whole only modelled = λ old at_start c is_left.
+    inl (keeps P Standard old f f.volume_size f.encrypted len b c meets whole (omega arith) (at_start c (only modelled c is_left)))

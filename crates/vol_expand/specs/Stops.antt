@@ -10,12 +10,20 @@
 -- Expands until size k f old new   the step of the whole call: as Grows, but for the standard header, which stays
 --                                  or else the new backup is there
 -- volume_of f image                the bytes of the volume that fields describe
+-- array_of a f image               its array: all its sectors, deciphered by the algorithm a under the fields' master keys
 -- Holds P slot k f content image   P holds of the slot, and the volume begins with the bytes `content`
+-- ArrayBegins a f g old new        the array of the fields g in the new image begins with that of the fields f in the
+--                                  old one
+-- Keeps P slot k f g old new       P holds of the slot in the new image, with the fields g; the volume that these
+--                                  describe begins with the bytes of that of the fields f in the old image, and its
+--                                  array with that array
 -- OldOrNew .. P k f size           if the old header is there in each outcome at the start of the call, under any
 --                                  sealing and with the volume's bytes of the image, then in each outcome at any
 --                                  moment of it the old header or the new backup is there, with a volume that begins
---                                  with these bytes
-use Rattle.std.specs.Prelude.{◌≡◌, ◌≤◌, ◌⊎◌, ℕ, ◌+◌, Bool, true, List, length, take, drop, Option, IfSome}
+--                                  with these bytes, and with an array that begins with the image's
+use Rattle.std.specs.Prelude.{◌≡◌, ◌≤◌, ◌⊎◌, ℕ, ◌+◌, ◌/◌, Bool, true, List, length, take, drop, Option, IfSome}
+use Rattle.algorithm_names.specs.declared.algorithm.Algorithm.{Algorithm}
+use Rattle.cascade_set.specs.Volume.{plain_sectors}
 use Rattle.vc_layout.specs.Layout.{IsContainerLength}
 use Rattle.vc_layout.specs.declared.slots.Slot.{Slot}
 use Rattle.vc_layout.specs.declared.slots.Slot.TheVariants.{Standard, BackupStandard}
@@ -57,10 +65,24 @@ pub record Expands (until size : ℕ) (k : Sealing) (f : Fields) (old new : List
 abbrev pub volume_of : Fields → List ℕ → List ℕ
 volume_of f image = take f.volume_size (drop f.start image)
 
+abbrev pub array_of : Algorithm → Fields → List ℕ → List ℕ
+array_of a f image =
+    plain_sectors (record { algorithm = a; material = f.material }) f.start (f.sector / 512) image 0
+    (f.volume_size / f.sector)
+
 pub record Holds (P : Slot → Sealing → Fields → List ℕ → Type 0) (slot : Slot) (k : Sealing) (f : Fields)
     (content image : List ℕ) : Type 0 where
   pub header : P slot k f image
   pub begins : take (length content) (volume_of f image) ≡ content
+
+abbrev pub ArrayBegins : Algorithm → Fields → Fields → List ℕ → List ℕ → Type 0
+ArrayBegins a f g old new = take (length (array_of a f old)) (array_of a g new) ≡ array_of a f old
+
+-- both arrays are by the algorithm of the slot's header
+pub record Keeps (P : Slot → Sealing → Fields → List ℕ → Type 0) (slot : Slot) (k : Sealing) (f g : Fields)
+    (old new : List ℕ) : Type 0 where
+  pub holds : Holds P slot k g (volume_of f old) new
+  pub array : ArrayBegins k.algorithm f g old new
 
 -- `could` are the outcomes at the start of the call, and `left` those at any moment since. A store that models its
 -- outcomes knows its image. The new headers are under the sealing k, in a container of `size` bytes.
@@ -69,5 +91,4 @@ abbrev pub OldOrNew : Bool → Option (List ℕ) → (List ℕ → Type 0) → (
 OldOrNew tells image could left P k f size = tells ≡ true → IfSome image (λ b. (old : Sealing)
     → ((d : List ℕ) → could d → Holds P Standard old f (volume_of f b) d)
     → (c : List ℕ) → left c
-    → Holds P Standard old f (volume_of f b) c
-    ⊎ Holds P BackupStandard k (expanded_fields size f) (volume_of f b) c)
+    → Keeps P Standard old f f b c ⊎ Keeps P BackupStandard k f (expanded_fields size f) b c)

@@ -15,7 +15,7 @@ ghost use Rattle.volume_format.specs.Stream.{advanced, stream_bytes};
 ghost use Rattle.header_change.specs.Changed.{new_sealing};
 ghost use Rattle.header_change.specs.Moments.{AtEachMoment};
 ghost use Rattle.vol_expand.specs.Expanded.{expanded, expanded_fields, fill_bytes, words_of, IsExpandable};
-ghost use Rattle.vol_expand.specs.Stops.{Carries, Expands, IsOpened, OldOrNew, PartsStay};
+ghost use Rattle.vol_expand.specs.Stops.{ArrayBegins, Carries, Expands, IsOpened, OldOrNew, PartsStay};
 
 use crate::end::write_end;
 use crate::expand_error::ExpandError;
@@ -49,6 +49,8 @@ pub fn expand<D: Store>(
     ensures headers { OnOk result (Both (D.image disk.old) (D.image disk.new) (λ _ c.
         HasBothHeaders StandardOnly Standard BackupStandard (new_sealing p.now pim from.now.prf from.now)
         (expanded_fields size from.now.fields) c)) }
+    ensures array { OnOk result (Both (D.image disk.old) (D.image disk.new) (ArrayBegins from.now.algorithm
+        from.now.fields (expanded_fields size from.now.fields))) }
     ensures size { OnOk result (D.size disk.new ≡ size) }
     ensures lasting { OnOk result (IsLasting D.tells (D.image disk.new) (D.may_leave disk.new)) }
     ensures drawn { OnOk result (rng.new ≡ advanced rng.old (words_of (size - (D.size disk.old - 131072)) + 64)) }

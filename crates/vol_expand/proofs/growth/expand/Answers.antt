@@ -14,7 +14,8 @@ use Rattle.header_change.specs.Moments.{AtEachMoment}
 use Rattle.header_change.proofs.Moments.{since_start}
 use Rattle.vol_expand.specs.Expanded.{expanded_fields, fill_bytes, words_of, IsExpandable}
 use Rattle.vol_expand.specs.Stops.{Carries, Expands, IsOpened, PartsStay}
-use Rattle.vol_expand.proofs.Growing.{long_enough, meets_grown, meets_longer, meets_standard, of_opened}
+use Rattle.vol_expand.proofs.Arrays.{arrays_begin}
+use Rattle.vol_expand.proofs.Growing.{ends_before, long_enough, meets_grown, meets_longer, meets_standard, of_opened}
 use Rattle.vol_expand.proofs.Headers.{expanded_from}
 use Rattle.vol_expand.proofs.Moments.{length_then, lengthened}
 use Rattle.vol_expand.proofs.Opening.{carried_lasts, fits_container, old_or_new, opened_lasts, still_old}
@@ -25,16 +26,20 @@ pub returns-then-not-is_expandable-clause-either_carries :
     goal.returns-then-not-is_expandable-clause-either_carries
 returns-then-not-is_expandable-clause-either_carries g c =
     still_old Carries (new_sealing c.args.p.now c.args.pim c.args.from.now.prf c.args.from.now)
-    c.args.from.now.fields c.args.size g.D.Store.tells (g.D.Store.image c.args.disk.now) (g.D.Store.may_leave c.args.disk.now)
-    (g.D.Store.left_since c.args.disk.now (g.D.Store.moment c.args.disk.now))
+    c.args.from.now.fields (g.D.Store.size c.args.disk.now) c.args.size g.D.Store.tells (g.D.Store.image c.args.disk.now)
+    (g.D.Store.may_leave c.args.disk.now) (g.D.Store.left_since c.args.disk.now (g.D.Store.moment c.args.disk.now))
+    (meets_standard c.args.from.now.slot c.args.from.now.fields (g.D.Store.size c.args.disk.now) c.requires.slot c.requires.meets)
+    (g.met.D.Store.image_is_whole c.args.disk.now)
     (λ modelled x left. g.met.D.Store.only_now modelled c.args.disk.now x left)
 
 pub returns-then-not-is_expandable-clause-either_opens :
     goal.returns-then-not-is_expandable-clause-either_opens
 returns-then-not-is_expandable-clause-either_opens g c =
     still_old IsOpened (new_sealing c.args.p.now c.args.pim c.args.from.now.prf c.args.from.now)
-    c.args.from.now.fields c.args.size g.D.Store.tells (g.D.Store.image c.args.disk.now) (g.D.Store.may_leave c.args.disk.now)
-    (g.D.Store.left_since c.args.disk.now (g.D.Store.moment c.args.disk.now))
+    c.args.from.now.fields (g.D.Store.size c.args.disk.now) c.args.size g.D.Store.tells (g.D.Store.image c.args.disk.now)
+    (g.D.Store.may_leave c.args.disk.now) (g.D.Store.left_since c.args.disk.now (g.D.Store.moment c.args.disk.now))
+    (meets_standard c.args.from.now.slot c.args.from.now.fields (g.D.Store.size c.args.disk.now) c.requires.slot c.requires.meets)
+    (g.met.D.Store.image_is_whole c.args.disk.now)
     (λ modelled x left. g.met.D.Store.only_now modelled c.args.disk.now x left)
 
 pub rewrite-requires-clause-meets : goal.rewrite-requires-clause-meets
@@ -96,6 +101,19 @@ returns-in-Ok-rewrite-clause-outside g c =
     c.grown.ensures c.len-len.ensures.len
     (λ n k f. Both (g.D.Store.image c.set_len.new.self) (g.D.Store.image c.rewrite.new.disk) (PartsStay 512 (n - 131072)))
     c.rewrite.ensures.outside)
+
+pub returns-in-Ok-rewrite-clause-array : goal.returns-in-Ok-rewrite-clause-array
+returns-in-Ok-rewrite-clause-array g c =
+    let can : IsExpandable (g.D.Store.size c.args.disk.now) c.args.size c.args.from.now.fields.sector
+    = (subst (λ (n : ℕ). IsExpandable n c.args.size c.args.from.now.fields.sector) c.len-len.ensures.len
+    (c.is_expandable.ensures.0 c.if-not-is_expandable.false)) in
+    let meets : Meets c.args.from.now.fields Standard (g.D.Store.size c.args.disk.now)
+    = meets_standard c.args.from.now.slot c.args.from.now.fields (g.D.Store.size c.args.disk.now) c.requires.slot c.requires.meets in
+    arrays_begin c.args.from.now.algorithm c.args.from.now.fields
+    (c.args.size - 131072 - c.args.from.now.fields.start) (c.args.size - 131072 - c.args.from.now.fields.start)
+    (g.D.Store.size c.args.disk.now) (g.D.Store.image c.args.disk.now) (g.D.Store.image c.rewrite.new.disk) meets
+    (omega (arith, ends_before c.args.from.now.fields (g.D.Store.size c.args.disk.now) meets, can.longer))
+    (g.met.D.Store.image_is_whole c.args.disk.now) (returns-in-Ok-rewrite-clause-outside g c)
 
 pub returns-in-Ok-rewrite-clause-crash : goal.returns-in-Ok-rewrite-clause-crash
 returns-in-Ok-rewrite-clause-crash g c =
