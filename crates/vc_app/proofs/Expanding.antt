@@ -1,7 +1,7 @@
 -- How `expand` keeps its promise.
 use Rattle.std.proofs.Common.{◌≡◌, ◌⊎◌, ℕ, zero, suc, ◌≤◌, ◌<◌, ◌-◌, ◌%◌, ◌^◌, ◌==◌, ◌&&◌, inl, inr, true, false, List, [], ◌∷◌, length, Option, Some, None, Result, Ok, Err, refl, sym, ap, ◌∙◌, subst, arith}
 use Rattle.std.specs.Prelude.{Contains, if◌then◌else◌, IfSome, IsErrAnd, MatchOption, nat_le, slice_index_or}
-use Rattle.std.proofs.lemmas.Bool.Decides.{eqb_tells, leb_tells}
+use Rattle.std.proofs.lemmas.Bool.Decides.{leb_tells}
 use Rattle.vc_base.specs.Faults.{Rose}
 use Rattle.vc_layout.specs.Kinds.{slots_of}
 use Rattle.vc_layout.specs.declared.kind.Kind.{Kind}
@@ -16,9 +16,9 @@ use Rattle.header_try.specs.declared.open_error.OpenError.TheVariants as opening
 use Rattle.volume_format.specs.Formatted.{Sealing}
 use Rattle.vc_outside.specs.Told.{Both}
 use Rattle.header_change.specs.Moments.{After}
-use Rattle.vol_expand.specs.Expanded.{IsExpandable}
+use Rattle.vol_expand.specs.Expanded.{is_expandable}
 use Rattle.vol_expand.specs.Stops.{Carries, Expands, IsOpened, PartsStay}
-use Rattle.vol_expand.proofs.Growing.{meets_longer}
+use Rattle.vol_expand.proofs.Growing.{expandable, meets_longer, Expandable}
 use Rattle.vol_expand.proofs.Opening.{carried_lasts, fits_container, old_or_new, opened_lasts}
 use Rattle.vc_app.specs.declared.commands.expand.Expand.{Expand}
 use Rattle.vc_app.specs.declared.commands.expand.ExpandError.{ExpandError}
@@ -26,7 +26,7 @@ use Rattle.vc_app.specs.declared.commands.expand.ExpandError.TheVariants.{Open}
 use Rattle.vc_app.specs.declared.status.Status.{Status}
 use Rattle.vc_app.specs.declared.status.Status.TheVariants.{BadSize}
 use Rattle.vc_app.specs.Access.{opened, outcome_of}
-use Rattle.vc_app.specs.Expand.{AtStop, expand_status, is_expandable, new_fields, outcome, plan_of, promise}
+use Rattle.vc_app.specs.Expand.{AtStop, expand_status, new_fields, outcome, plan_of, promise}
 use Rattle.vc_app.specs.Promise.{goes, Kept, Promise, refused, Same, Seen}
 use Rattle.vc_app.specs.Rewriting.{sealing}
 use Rattle.vc_app.specs.Status.{ended, IsAfterWork, open_status}
@@ -42,69 +42,29 @@ only_standard kind slot is there =
     let here : Contains (Standard ∷ []) slot = subst (λ (k : Kind). Contains (slots_of k) slot) is there in
     by_place slot here.0 here.1 here.2
 
--- ---- whether the container can get the size
+-- ---- what comes of the opened volume
 
-is_or_not : (len size s : ℕ) → IsExpandable len size s ⊎ ¬ IsExpandable len size s
-is_or_not len size s = elim (leb_tells (suc len) size) [
-  | inl longer ↦ elim (leb_tells size (2 ^ 40)) [
-    | inl longest ↦ elim (eqb_tells (size % s) 0) [
-      | inl whole ↦ inl (record { longer = omega (arith, longer.1); longest = longest.1; whole = whole.1 })
-      | inr other ↦ inr (λ can. other.1 can.whole)
-    ]
-    | inr other ↦ inr (λ can. omega (arith, other.1, can.longest))
-  ]
-  | inr other ↦ inr (λ can. omega (arith, other.1, can.longer))
-]
-
-pub surely : (len size s : ℕ) → ¬ (¬ IsExpandable len size s) → IsExpandable len size s
-surely len size s h = elim (is_or_not len size s) [ inl can ↦ can | inr fails ↦ absurd (h fails) ]
-
-can_be : (len size s : ℕ) → IsExpandable len size s → is_expandable len size s ≡ true
-can_be len size s can = elim (leb_tells (suc len) size) [
-  | inl longer ↦ elim (leb_tells size (2 ^ 40)) [
-    | inl longest ↦ elim (eqb_tells (size % s) 0) [
-      | inl whole ↦ λ i. longer.0 i && (longest.0 i && whole.0 i)
-      | inr other ↦ absurd (other.1 can.whole)
-    ]
-    | inr other ↦ absurd (omega (arith, other.1, can.longest))
-  ]
-  | inr other ↦ absurd (omega (arith, other.1, can.longer))
-]
-
-cannot_be : (len size s : ℕ) → ¬ IsExpandable len size s → is_expandable len size s ≡ false
-cannot_be len size s fails = elim (leb_tells (suc len) size) [
-  | inl longer ↦ elim (leb_tells size (2 ^ 40)) [
-    | inl longest ↦ elim (eqb_tells (size % s) 0) [
-      | inl whole ↦ absurd (fails (record { longer = omega (arith, longer.1); longest = longest.1; whole = whole.1 }))
-      | inr other ↦ λ i. longer.0 i && (longest.0 i && other.0 i)
-    ]
-    | inr other ↦ λ i. longer.0 i && (other.0 i && size % s == 0)
-  ]
-  | inr other ↦ λ i. other.0 i && (nat_le size (2 ^ 40) && size % s == 0)
-]
-
--- what comes of the opened volume then
+-- the container can't get the size
 pub bad_size_comes : (command : Expand) (random : List ℕ) (o : Opened) (len : ℕ) (image : Option (List ℕ))
     → IfSome image (λ b. length b ≡ len) → IfSome image (λ b. opened command.access b ≡ Some o)
-    → ¬ IsExpandable len command.size o.fields.sector
+    → is_expandable len command.size o.fields.sector ≡ false
     → IfSome ((promise command random).plan image) (λ x. x ≡ refused BadSize)
 bad_size_comes command random o len None whole is fails = tt
 bad_size_comes command random o len (Some b) whole is fails =
     ap (outcome_of (λ o. outcome command random o b)) is
     ∙ ap (λ t. if t then goes (plan_of command random o b) else refused BadSize)
-    (cannot_be (length b) command.size o.fields.sector
-    (subst (λ (n : ℕ). ¬ IsExpandable n command.size o.fields.sector) (sym whole) fails))
+    (subst (λ (n : ℕ). is_expandable n command.size o.fields.sector ≡ false) (sym whole) fails)
 
+-- it can
 pub plan_comes : (command : Expand) (random : List ℕ) (o : Opened) (len : ℕ) (image : Option (List ℕ))
     → IfSome image (λ b. length b ≡ len) → IfSome image (λ b. opened command.access b ≡ Some o)
-    → IsExpandable len command.size o.fields.sector
+    → is_expandable len command.size o.fields.sector ≡ true
     → IfSome image (λ b. (opened command.access b ≡ Some o) × (outcome command random o b ≡ goes (plan_of command random o b)))
 plan_comes command random o len None whole is can = tt
 plan_comes command random o len (Some b) whole is can = (
   is,
   ap (λ t. if t then goes (plan_of command random o b) else refused BadSize)
-      (can_be (length b) command.size o.fields.sector
-      (subst (λ (n : ℕ). IsExpandable n command.size o.fields.sector) (sym whole) can)),
+      (subst (λ (n : ℕ). is_expandable n command.size o.fields.sector ≡ true) (sym whole) can),
 )
 
 -- ---- no header was opened
@@ -182,7 +142,7 @@ pub at_length : (command : Expand) (o : Opened) (n len : ℕ) (could : List ℕ 
 at_length command o n len could c same left = subst (λ (k : ℕ). Since command o k could c) same left
 
 at_stop : (command : Expand) (o : Opened) (len : ℕ) (could : List ℕ → Type 0) (c : List ℕ)
-    → IsExpandable len command.size o.fields.sector → Meets o.fields Standard len → Since command o len could c
+    → Expandable len command.size o.fields.sector → Meets o.fields Standard len → Since command o len could c
     → (b : List ℕ) → length b ≡ len → AtStop command o b could c
 at_stop command o len could c can meets since b whole = record {
   differs = subst (λ (n : ℕ). After could (Expands (n - 131072) command.size (sealing command.access o) (new_fields command o)) c)
@@ -202,12 +162,12 @@ at_stop command o len could c can meets since b whole = record {
 
 pub stops_known : (command : Expand) (o : Opened) (len : ℕ) (could : List ℕ → Type 0) (c : List ℕ) (image : Option (List ℕ))
     → IfSome image (λ b. length b ≡ len) → IfSome image (λ b. opened command.access b ≡ Some o)
-    → IsExpandable len command.size o.fields.sector → Meets o.fields Standard len → Since command o len could c
+    → is_expandable len command.size o.fields.sector ≡ true → Meets o.fields Standard len → Since command o len could c
     → IfSome image (λ b. MatchOption (opened command.access b) ⊥ (λ o. AtStop command o b could c))
 stops_known command o len could c None whole is can meets since = tt
 stops_known command o len could c (Some b) whole is can meets since =
     subst (λ (x : Option Opened). MatchOption x ⊥ (λ o. AtStop command o b could c)) (sym is)
-    (at_stop command o len could c can meets since b whole)
+    (at_stop command o len could c (expandable len command.size o.fields.sector can) meets since b whole)
 
 -- ---- the count of faults
 

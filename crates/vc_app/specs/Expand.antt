@@ -6,18 +6,17 @@
 -- Both open a volume that begins with these bytes; and its array, which is all that `cat` can write of it, begins with
 -- the old array.
 --
--- is_expandable len size s      a container of len bytes can get `size` bytes, if its volume's sectors have s bytes
 -- new_fields command o          the fields of both new headers
 -- DataStays .. image could c P  the header that opens the data of the image is there in the image c that a crash leaves
 -- AtStop .. image could c       c differs from an image that a crash might leave when the call began only as the step of
 --                               an expansion does, and the data stays
-use Rattle.std.specs.Prelude.{◌⊎◌, ℕ, ◌-◌, ◌%◌, ◌^◌, ◌==◌, ◌&&◌, nat_lt, nat_le, if◌then◌else◌, Bool, false, List, [], ◌∷◌, length, MatchOption}
+use Rattle.std.specs.Prelude.{◌⊎◌, ℕ, ◌-◌, if◌then◌else◌, false, List, [], ◌∷◌, length, MatchOption}
 use Rattle.rand_chacha.specs.ChaCha.{of_seed}
 use Rattle.vc_layout.specs.declared.slots.Slot.TheVariants.{Standard, BackupStandard}
 use Rattle.vc_header.specs.declared.fields.Fields.{Fields}
 use Rattle.header_seal.specs.declared.opened.Opened.{Opened}
 use Rattle.header_change.specs.Moments.{After}
-use Rattle.vol_expand.specs.Expanded.{expanded, expanded_fields}
+use Rattle.vol_expand.specs.Expanded.{expanded, expanded_fields, is_expandable}
 use Rattle.vol_expand.specs.Stops.{Carries, Expands, Holds, IsOpened, Keeps, PartsStay, volume_of}
 use Rattle.vc_app.specs.declared.commands.expand.Expand.{Expand}
 use Rattle.vc_app.specs.declared.commands.expand.ExpandError.{ExpandError}
@@ -29,9 +28,6 @@ use Rattle.vc_app.specs.Format.{done_line}
 use Rattle.vc_app.specs.Promise.{Outcome, Plan, Promise, Reach, goes, longer, refused}
 use Rattle.vc_app.specs.Rewriting.{OfHeader, sealing}
 use Rattle.vc_app.specs.Status.{open_status, work_status}
-
-abbrev pub is_expandable : ℕ → ℕ → ℕ → Bool
-is_expandable len size s = nat_lt len size && (nat_le size (2 ^ 40) && size % s == 0)
 
 abbrev pub new_fields : Expand → Opened → Fields
 new_fields command o = expanded_fields command.size o.fields

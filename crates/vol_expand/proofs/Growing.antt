@@ -1,5 +1,7 @@
 -- The fields of a grown volume: they meet the rules in the longer container.
-use Rattle.std.proofs.Common.{◌≡◌, ◌≤◌, ◌<◌, ℕ, ◌+◌, ◌-◌, List, subst, arith}
+use Rattle.std.proofs.Common.{◌≡◌, ◌≤◌, ◌<◌, ℕ, ◌+◌, ◌-◌, ◌%◌, ◌^◌, ◌==◌, ◌&&◌, Bool, true, List, sym, ◌∙◌, subst, arith}
+use Rattle.std.specs.Prelude.{nat_le, nat_lt}
+use Rattle.std.proofs.lemmas.Bool.{and_parts, eqb-true, leb-true, ltb-true}
 use Rattle.vc_layout.specs.Laws.Sectors.{at_least_a_unit, group_whole, whole_without}
 use Rattle.vc_layout.specs.declared.slots.Slot.{Slot}
 use Rattle.vc_layout.specs.declared.slots.Slot.TheVariants.{Standard, BackupStandard}
@@ -8,7 +10,28 @@ use Rattle.vc_header.specs.declared.fields.Fields.{Fields}
 use Rattle.header_seal.specs.declared.opened.Opened.{Opened}
 use Rattle.volume_format.specs.Formatted.{Sealing}
 use Rattle.header_change.specs.Changed.{new_sealing}
-use Rattle.vol_expand.specs.Expanded.{expanded_fields, IsExpandable}
+use Rattle.vol_expand.specs.Expanded.{expanded_fields, is_expandable}
+
+-- what the test of a size says
+pub record Expandable (len size s : ℕ) : Type 0 where
+  pub longer : len < size
+  pub longest : size ≤ 2 ^ 40
+  pub whole : size % s ≡ 0
+
+pub expandable : (len size s : ℕ) → is_expandable len size s ≡ true → Expandable len size s
+expandable len size s is =
+    let parts = and_parts (nat_lt len size) (nat_le size (2 ^ 40) && size % s == 0) is in
+    let more = and_parts (nat_le size (2 ^ 40)) (size % s == 0) parts.1 in
+    record {
+      longer = ltb-true len size parts.0;
+      longest = leb-true size (2 ^ 40) more.0;
+      whole = eqb-true (size % s) 0 more.1;
+    }
+
+-- the same of the result of a test of a length
+pub tested : (n len size s : ℕ) (t : Bool) → t ≡ is_expandable n size s → t ≡ true → n ≡ len → Expandable len size s
+tested n len size s t same is long =
+    subst (λ (m : ℕ). Expandable m size s) long (expandable n size s (sym same ∙ is))
 
 pub long_enough : (f : Fields) (len : ℕ) → Meets f Standard len → 262656 ≤ len
 long_enough f len m =
@@ -33,7 +56,7 @@ meets_longer f len size longer m = record {
   fits_slot = m.fits_slot;
 }
 
-pub meets_grown : (f : Fields) (len size : ℕ) → IsExpandable len size f.sector → Meets f Standard len
+pub meets_grown : (f : Fields) (len size : ℕ) → Expandable len size f.sector → Meets f Standard len
     → Meets (expanded_fields size f) Standard size
 meets_grown f len size can m = record {
   no_system = m.no_system;

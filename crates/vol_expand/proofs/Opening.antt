@@ -12,10 +12,10 @@ use Rattle.header_seal.specs.Sealed.{header_at, plain_by}
 use Rattle.vc_layout.specs.declared.slots.Slot.{Slot}
 use Rattle.volume_format.specs.Formatted.{Sealing}
 use Rattle.header_change.specs.Moments.{After}
-use Rattle.vol_expand.specs.Expanded.{expanded_fields, IsExpandable}
+use Rattle.vol_expand.specs.Expanded.{expanded_fields}
 use Rattle.vol_expand.specs.Stops.{Carries, Expands, HasNewBackup, Holds, IsOpened, IsRead, Keeps, OldOrNew, volume_of}
 use Rattle.vol_expand.proofs.Arrays.{keeps, length-volume}
-use Rattle.vol_expand.proofs.Growing.{ends_before, long_enough, some_bytes}
+use Rattle.vol_expand.proofs.Growing.{ends_before, long_enough, some_bytes, Expandable}
 
 -- what stays of the standard header, and what the new backup has of it
 pub record Lasts (P : Slot → Sealing → Fields → List ℕ → Type 0) (f : Fields) (size : ℕ) : Type 0 where
@@ -50,7 +50,7 @@ container size d c can long is = elim long [
   | inr new ↦ subst IsContainerLength (sym new) can
 ]
 
-pub fits_container : (f : Fields) (len size : ℕ) → IsExpandable len size f.sector → Meets f Standard len
+pub fits_container : (f : Fields) (len size : ℕ) → Expandable len size f.sector → Meets f Standard len
     → IsContainerLength size
 fits_container f len size can meets = record {
   shortest = omega (arith, long_enough f len meets, can.longer);
@@ -106,7 +106,7 @@ part_inside n at xs d long some is =
     )
 
 module _ (P : Slot → Sealing → Fields → List ℕ → Type 0) (f : Fields) (len size : ℕ) (lasts : Lasts P f size)
-    (can : IsExpandable len size f.sector) (meets : Meets f Standard len) where
+    (can : Expandable len size f.sector) (meets : Meets f Standard len) where
   module _ (b d c : List ℕ) (k old : Sealing) (whole : length b ≡ len)
       (there : Holds P Standard old f (volume_of f b) d)
       (step : Expands (len - 131072) size k (expanded_fields size f) d c) where

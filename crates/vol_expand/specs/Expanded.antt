@@ -6,14 +6,14 @@
 -- and the standard header's salt the random bytes after the image. The bytes before the old backup headers stay,
 -- except for the standard header.
 --
--- IsExpandable len size s      a container of len bytes can get `size` bytes, if its volume's sectors have s bytes
+-- is_expandable len size s     a container of len bytes can get `size` bytes, if its volume's sectors have s bytes
 -- backups_at image             where the image's backup headers are
 -- expanded_fields size f       the fields of both new headers
 -- words_of n                   the bytes of the words of the random stream that n bytes are taken from
 -- fill_bytes g n               the first n bytes of the random stream of g, of which the last word may give a part
 -- filled g size image          the image with random bytes from its backup headers on, up to its new length
 -- expanded g k f size image    the expanded image, from the random stream of g, with headers under the sealing k
-use Rattle.std.specs.Prelude.{◌≡◌, ◌≤◌, ◌<◌, ℕ, ◌+◌, ◌-◌, ◌*◌, ◌/◌, ◌%◌, ◌^◌, List, ◌++◌, length, take}
+use Rattle.std.specs.Prelude.{ℕ, ◌+◌, ◌-◌, ◌*◌, ◌/◌, ◌%◌, ◌^◌, ◌==◌, ◌&&◌, nat_lt, nat_le, Bool, List, ◌++◌, length, take}
 use Rattle.rand_chacha.specs.ChaCha.{ChaCha}
 use Rattle.vc_layout.specs.Layout.{place_of}
 use Rattle.vc_layout.specs.declared.slots.Slot.TheVariants.{Standard, BackupStandard}
@@ -22,10 +22,8 @@ use Rattle.volume_format.specs.Formatted.{Sealing, with_body}
 use Rattle.volume_format.specs.Hidden.{with_header}
 use Rattle.volume_format.specs.Stream.{stream_bytes}
 
-pub record IsExpandable (len size s : ℕ) : Type 0 where
-  pub longer : len < size
-  pub longest : size ≤ 2 ^ 40
-  pub whole : size % s ≡ 0
+abbrev pub is_expandable : ℕ → ℕ → ℕ → Bool
+is_expandable len size s = nat_lt len size && (nat_le size (2 ^ 40) && size % s == 0)
 
 abbrev pub backups_at : List ℕ → ℕ
 backups_at image = place_of BackupStandard (length image)

@@ -10,17 +10,16 @@
 -- Expands until size k f old new   the step of the whole call: as Grows, but for the standard header, which stays
 --                                  or else the new backup is there
 -- volume_of f image                the bytes of the volume that fields describe
--- array_of a f image               its array: all its sectors, deciphered by the algorithm a under the fields' master keys
+-- array_of a f image               the array of this volume: all its sectors, deciphered by the algorithm a under the
+--                                  master keys of f
 -- Holds P slot k f content image   P holds of the slot, and the volume begins with the bytes `content`
--- ArrayBegins a f g old new        the array of the fields g in the new image begins with that of the fields f in the
---                                  old one
--- Keeps P slot k f g old new       P holds of the slot in the new image, with the fields g; the volume that these
---                                  describe begins with the bytes of that of the fields f in the old image, and its
---                                  array with that array
+-- ArrayBegins a f g old new        the array of the fields g in the image `new` begins with that of f in `old`
+-- Keeps P slot k f g old new       P holds of the slot in the image `new`, with the fields g; and the volume that these
+--                                  describe there begins with that of f in the image `old`, as bytes and as an array
 -- OldOrNew .. P k f size           if the old header is there in each outcome at the start of the call, under any
 --                                  sealing and with the volume's bytes of the image, then in each outcome at any
 --                                  moment of it the old header or the new backup is there, with a volume that begins
---                                  with these bytes, and with an array that begins with the image's
+--                                  with that of the image, as bytes and as an array
 use Rattle.std.specs.Prelude.{◌≡◌, ◌≤◌, ◌⊎◌, ℕ, ◌+◌, ◌/◌, Bool, true, List, length, take, drop, Option, IfSome}
 use Rattle.algorithm_names.specs.declared.algorithm.Algorithm.{Algorithm}
 use Rattle.cascade_set.specs.Volume.{plain_sectors}
@@ -78,7 +77,7 @@ pub record Holds (P : Slot → Sealing → Fields → List ℕ → Type 0) (slot
 abbrev pub ArrayBegins : Algorithm → Fields → Fields → List ℕ → List ℕ → Type 0
 ArrayBegins a f g old new = take (length (array_of a f old)) (array_of a g new) ≡ array_of a f old
 
--- both arrays are by the algorithm of the slot's header
+-- Both arrays are by the algorithm of the slot's header.
 pub record Keeps (P : Slot → Sealing → Fields → List ℕ → Type 0) (slot : Slot) (k : Sealing) (f g : Fields)
     (old new : List ℕ) : Type 0 where
   pub holds : Holds P slot k g (volume_of f old) new

@@ -1,5 +1,5 @@
 //! The call that expands a container.
-ghost use Rattle.std.specs.Prelude.{◌≡◌, ◌≤◌, ◌<◌, ◌⊎◌, ◌+◌, ◌-◌, ◌↔◌, Err, OnOk, IsErr, IsErrOf, IsTrue};
+ghost use Rattle.std.specs.Prelude.{◌≡◌, ◌≤◌, ◌<◌, ◌⊎◌, ◌+◌, ◌-◌, ◌↔◌, Err, OnOk, IsErr, IsErrOf, IsFalse, IsTrue};
 ghost use Rattle.kdf_hmac.specs.Pbkdf2.{IsPim};
 ghost use Rattle.vc_base.specs.Faults.{HasCause};
 ghost use Rattle.vc_layout.specs.Layout.{IsSectorSize};
@@ -14,7 +14,7 @@ ghost use Rattle.volume_format.specs.Opens.{HasBothHeaders};
 ghost use Rattle.volume_format.specs.Stream.{advanced, stream_bytes};
 ghost use Rattle.header_change.specs.Changed.{new_sealing};
 ghost use Rattle.header_change.specs.Moments.{AtEachMoment};
-ghost use Rattle.vol_expand.specs.Expanded.{expanded, expanded_fields, fill_bytes, words_of, IsExpandable};
+ghost use Rattle.vol_expand.specs.Expanded.{expanded, expanded_fields, fill_bytes, is_expandable, words_of};
 ghost use Rattle.vol_expand.specs.Stops.{ArrayBegins, Carries, Expands, IsOpened, OldOrNew, PartsStay};
 
 use crate::end::write_end;
@@ -56,9 +56,9 @@ pub fn expand<D: Store>(
     ensures drawn { OnOk result (rng.new ≡ advanced rng.old (words_of (size - (D.size disk.old - 131072)) + 64)) }
 
     // Why it is refused, and what is then as before.
-    ensures expandable { OnOk result (IsExpandable (D.size disk.old) size from.now.fields.sector) }
+    ensures expandable { OnOk result (IsTrue (is_expandable (D.size disk.old) size from.now.fields.sector)) }
     ensures bad_size { result ≡ Err ExpandError.BadSize
-        ↔ ¬ IsExpandable (D.size disk.old) size from.now.fields.sector }
+        ↔ IsFalse (is_expandable (D.size disk.old) size from.now.fields.sector) }
     ensures nothing_changed { result ≡ Err ExpandError.BadSize → disk.new ≡ disk.old }
     ensures nothing_drawn { result ≡ Err ExpandError.BadSize → rng.new ≡ rng.old }
     ensures same_image { result ≡ Err ExpandError.NoMemory → D.image disk.new ≡ D.image disk.old }
@@ -100,7 +100,7 @@ pub fn expand<D: Store>(
 // Whether a container of `len` bytes can get `size` bytes, if its volume's sectors have `sector` bytes.
 fn is_expandable(len: u64, size: u64, sector: u32) -> bool
     requires { IsSectorSize sector }
-    ensures { IsTrue result ↔ IsExpandable len size sector }
+    ensures { result ≡ is_expandable len size sector }
 {
     len < size && size <= LONGEST_FORMATTED && size % u64::from(sector) == 0
 }

@@ -12,10 +12,10 @@ use Rattle.volume_format.specs.Stream.{stream_bytes}
 use Rattle.header_change.specs.Changed.{new_sealing}
 use Rattle.header_change.specs.Moments.{AtEachMoment}
 use Rattle.header_change.proofs.Moments.{since_start}
-use Rattle.vol_expand.specs.Expanded.{expanded_fields, fill_bytes, words_of, IsExpandable}
+use Rattle.vol_expand.specs.Expanded.{expanded_fields, fill_bytes, words_of}
 use Rattle.vol_expand.specs.Stops.{Carries, Expands, IsOpened, PartsStay}
 use Rattle.vol_expand.proofs.Arrays.{arrays_begin}
-use Rattle.vol_expand.proofs.Growing.{ends_before, long_enough, meets_grown, meets_longer, meets_standard, of_opened}
+use Rattle.vol_expand.proofs.Growing.{ends_before, long_enough, meets_grown, meets_longer, meets_standard, of_opened, tested, Expandable}
 use Rattle.vol_expand.proofs.Headers.{expanded_from}
 use Rattle.vol_expand.proofs.Moments.{length_then, lengthened}
 use Rattle.vol_expand.proofs.Opening.{carried_lasts, fits_container, old_or_new, opened_lasts, still_old}
@@ -46,15 +46,15 @@ pub rewrite-requires-clause-meets : goal.rewrite-requires-clause-meets
 rewrite-requires-clause-meets g c =
     subst (λ (o : Opened). Meets o.fields Standard c.args.size) (sym c.grown.ensures)
     (meets_grown c.args.from.now.fields (g.D.Store.size c.args.disk.now) c.args.size
-    (subst (λ (n : ℕ). IsExpandable n c.args.size c.args.from.now.fields.sector) c.len-len.ensures.len
-    (c.is_expandable.ensures.0 c.if-not-is_expandable.false))
+    (tested c.len-len.result (g.D.Store.size c.args.disk.now) c.args.size c.args.from.now.fields.sector
+    c.is_expandable.result c.is_expandable.ensures c.if-not-is_expandable.false c.len-len.ensures.len)
     (meets_standard c.args.from.now.slot c.args.from.now.fields (g.D.Store.size c.args.disk.now) c.requires.slot c.requires.meets))
 
 pub returns-in-Ok-rewrite-clause-expanded : goal.returns-in-Ok-rewrite-clause-expanded
 returns-in-Ok-rewrite-clause-expanded g c =
-    let can : IsExpandable (g.D.Store.size c.args.disk.now) c.args.size c.args.from.now.fields.sector
-    = (subst (λ (n : ℕ). IsExpandable n c.args.size c.args.from.now.fields.sector) c.len-len.ensures.len
-    (c.is_expandable.ensures.0 c.if-not-is_expandable.false)) in
+    let can : Expandable (g.D.Store.size c.args.disk.now) c.args.size c.args.from.now.fields.sector
+    = tested c.len-len.result (g.D.Store.size c.args.disk.now) c.args.size c.args.from.now.fields.sector
+    c.is_expandable.result c.is_expandable.ensures c.if-not-is_expandable.false c.len-len.ensures.len in
     let long : 262656 ≤ g.D.Store.size c.args.disk.now
     = long_enough c.args.from.now.fields (g.D.Store.size c.args.disk.now) (meets_standard c.args.from.now.slot c.args.from.now.fields (g.D.Store.size c.args.disk.now) c.requires.slot c.requires.meets) in
     expanded_from c.args.rng.now (new_sealing c.args.p.now c.args.pim c.args.from.now.prf c.args.from.now)
@@ -69,9 +69,9 @@ returns-in-Ok-rewrite-clause-expanded g c =
 
 pub returns-in-Ok-rewrite-clause-headers : goal.returns-in-Ok-rewrite-clause-headers
 returns-in-Ok-rewrite-clause-headers g c =
-    let can : IsExpandable (g.D.Store.size c.args.disk.now) c.args.size c.args.from.now.fields.sector
-    = (subst (λ (n : ℕ). IsExpandable n c.args.size c.args.from.now.fields.sector) c.len-len.ensures.len
-    (c.is_expandable.ensures.0 c.if-not-is_expandable.false)) in
+    let can : Expandable (g.D.Store.size c.args.disk.now) c.args.size c.args.from.now.fields.sector
+    = tested c.len-len.result (g.D.Store.size c.args.disk.now) c.args.size c.args.from.now.fields.sector
+    c.is_expandable.result c.is_expandable.ensures c.if-not-is_expandable.false c.len-len.ensures.len in
     let long : 262656 ≤ g.D.Store.size c.args.disk.now
     = long_enough c.args.from.now.fields (g.D.Store.size c.args.disk.now) (meets_standard c.args.from.now.slot c.args.from.now.fields (g.D.Store.size c.args.disk.now) c.requires.slot c.requires.meets) in
     in_the_end (g.D.Store.image c.args.disk.now) (g.D.Store.image c.set_len.new.self) (g.D.Store.image c.rewrite.new.disk)
@@ -85,9 +85,9 @@ returns-in-Ok-rewrite-clause-headers g c =
 
 pub returns-in-Ok-rewrite-clause-outside : goal.returns-in-Ok-rewrite-clause-outside
 returns-in-Ok-rewrite-clause-outside g c =
-    let can : IsExpandable (g.D.Store.size c.args.disk.now) c.args.size c.args.from.now.fields.sector
-    = (subst (λ (n : ℕ). IsExpandable n c.args.size c.args.from.now.fields.sector) c.len-len.ensures.len
-    (c.is_expandable.ensures.0 c.if-not-is_expandable.false)) in
+    let can : Expandable (g.D.Store.size c.args.disk.now) c.args.size c.args.from.now.fields.sector
+    = tested c.len-len.result (g.D.Store.size c.args.disk.now) c.args.size c.args.from.now.fields.sector
+    c.is_expandable.result c.is_expandable.ensures c.if-not-is_expandable.false c.len-len.ensures.len in
     let long : 262656 ≤ g.D.Store.size c.args.disk.now
     = long_enough c.args.from.now.fields (g.D.Store.size c.args.disk.now) (meets_standard c.args.from.now.slot c.args.from.now.fields (g.D.Store.size c.args.disk.now) c.requires.slot c.requires.meets) in
     both_then 512 (g.D.Store.size c.args.disk.now - 131072) c.args.size (g.D.Store.image c.args.disk.now) (g.D.Store.image c.set_len.new.self) (g.D.Store.image c.rewrite.new.disk)
@@ -104,9 +104,9 @@ returns-in-Ok-rewrite-clause-outside g c =
 
 pub returns-in-Ok-rewrite-clause-array : goal.returns-in-Ok-rewrite-clause-array
 returns-in-Ok-rewrite-clause-array g c =
-    let can : IsExpandable (g.D.Store.size c.args.disk.now) c.args.size c.args.from.now.fields.sector
-    = (subst (λ (n : ℕ). IsExpandable n c.args.size c.args.from.now.fields.sector) c.len-len.ensures.len
-    (c.is_expandable.ensures.0 c.if-not-is_expandable.false)) in
+    let can : Expandable (g.D.Store.size c.args.disk.now) c.args.size c.args.from.now.fields.sector
+    = tested c.len-len.result (g.D.Store.size c.args.disk.now) c.args.size c.args.from.now.fields.sector
+    c.is_expandable.result c.is_expandable.ensures c.if-not-is_expandable.false c.len-len.ensures.len in
     let meets : Meets c.args.from.now.fields Standard (g.D.Store.size c.args.disk.now)
     = meets_standard c.args.from.now.slot c.args.from.now.fields (g.D.Store.size c.args.disk.now) c.requires.slot c.requires.meets in
     arrays_begin c.args.from.now.algorithm c.args.from.now.fields
@@ -117,9 +117,9 @@ returns-in-Ok-rewrite-clause-array g c =
 
 pub returns-in-Ok-rewrite-clause-crash : goal.returns-in-Ok-rewrite-clause-crash
 returns-in-Ok-rewrite-clause-crash g c =
-    let can : IsExpandable (g.D.Store.size c.args.disk.now) c.args.size c.args.from.now.fields.sector
-    = (subst (λ (n : ℕ). IsExpandable n c.args.size c.args.from.now.fields.sector) c.len-len.ensures.len
-    (c.is_expandable.ensures.0 c.if-not-is_expandable.false)) in
+    let can : Expandable (g.D.Store.size c.args.disk.now) c.args.size c.args.from.now.fields.sector
+    = tested c.len-len.result (g.D.Store.size c.args.disk.now) c.args.size c.args.from.now.fields.sector
+    c.is_expandable.result c.is_expandable.ensures c.if-not-is_expandable.false c.len-len.ensures.len in
     let long : 262656 ≤ g.D.Store.size c.args.disk.now
     = long_enough c.args.from.now.fields (g.D.Store.size c.args.disk.now) (meets_standard c.args.from.now.slot c.args.from.now.fields (g.D.Store.size c.args.disk.now) c.requires.slot c.requires.meets) in
     length_then (new_sealing c.args.p.now c.args.pim c.args.from.now.prf c.args.from.now) (expanded_fields c.args.size c.args.from.now.fields)
@@ -137,9 +137,9 @@ returns-in-Ok-rewrite-clause-crash g c =
 
 pub returns-in-Err-clause-outside : goal.returns-in-Err-clause-outside
 returns-in-Err-clause-outside g c =
-    let can : IsExpandable (g.D.Store.size c.args.disk.now) c.args.size c.args.from.now.fields.sector
-    = (subst (λ (n : ℕ). IsExpandable n c.args.size c.args.from.now.fields.sector) c.len-len.ensures.len
-    (c.is_expandable.ensures.0 c.if-not-is_expandable.false)) in
+    let can : Expandable (g.D.Store.size c.args.disk.now) c.args.size c.args.from.now.fields.sector
+    = tested c.len-len.result (g.D.Store.size c.args.disk.now) c.args.size c.args.from.now.fields.sector
+    c.is_expandable.result c.is_expandable.ensures c.if-not-is_expandable.false c.len-len.ensures.len in
     let long : 262656 ≤ g.D.Store.size c.args.disk.now
     = long_enough c.args.from.now.fields (g.D.Store.size c.args.disk.now) (meets_standard c.args.from.now.slot c.args.from.now.fields (g.D.Store.size c.args.disk.now) c.requires.slot c.requires.meets) in
     both_then 512 (g.D.Store.size c.args.disk.now - 131072) c.args.size (g.D.Store.image c.args.disk.now) (g.D.Store.image c.set_len.new.self) (g.D.Store.image c.rewrite.new.disk)
@@ -156,9 +156,9 @@ returns-in-Err-clause-outside g c =
 
 pub returns-in-Err-clause-crash : goal.returns-in-Err-clause-crash
 returns-in-Err-clause-crash g c =
-    let can : IsExpandable (g.D.Store.size c.args.disk.now) c.args.size c.args.from.now.fields.sector
-    = (subst (λ (n : ℕ). IsExpandable n c.args.size c.args.from.now.fields.sector) c.len-len.ensures.len
-    (c.is_expandable.ensures.0 c.if-not-is_expandable.false)) in
+    let can : Expandable (g.D.Store.size c.args.disk.now) c.args.size c.args.from.now.fields.sector
+    = tested c.len-len.result (g.D.Store.size c.args.disk.now) c.args.size c.args.from.now.fields.sector
+    c.is_expandable.result c.is_expandable.ensures c.if-not-is_expandable.false c.len-len.ensures.len in
     let long : 262656 ≤ g.D.Store.size c.args.disk.now
     = long_enough c.args.from.now.fields (g.D.Store.size c.args.disk.now) (meets_standard c.args.from.now.slot c.args.from.now.fields (g.D.Store.size c.args.disk.now) c.requires.slot c.requires.meets) in
     length_then (new_sealing c.args.p.now c.args.pim c.args.from.now.prf c.args.from.now) (expanded_fields c.args.size c.args.from.now.fields)
@@ -176,9 +176,9 @@ returns-in-Err-clause-crash g c =
 
 pub returns-in-Err-NoMemory-clause-crash : goal.returns-in-Err-NoMemory-clause-crash
 returns-in-Err-NoMemory-clause-crash g c =
-    let can : IsExpandable (g.D.Store.size c.args.disk.now) c.args.size c.args.from.now.fields.sector
-    = (subst (λ (n : ℕ). IsExpandable n c.args.size c.args.from.now.fields.sector) c.len-len.ensures.len
-    (c.is_expandable.ensures.0 c.if-not-is_expandable.false)) in
+    let can : Expandable (g.D.Store.size c.args.disk.now) c.args.size c.args.from.now.fields.sector
+    = tested c.len-len.result (g.D.Store.size c.args.disk.now) c.args.size c.args.from.now.fields.sector
+    c.is_expandable.result c.is_expandable.ensures c.if-not-is_expandable.false c.len-len.ensures.len in
     let long : 262656 ≤ g.D.Store.size c.args.disk.now
     = long_enough c.args.from.now.fields (g.D.Store.size c.args.disk.now) (meets_standard c.args.from.now.slot c.args.from.now.fields (g.D.Store.size c.args.disk.now) c.requires.slot c.requires.meets) in
     lengthened (new_sealing c.args.p.now c.args.pim c.args.from.now.prf c.args.from.now) (expanded_fields c.args.size c.args.from.now.fields)
@@ -190,9 +190,9 @@ returns-in-Err-NoMemory-clause-crash g c =
 
 pub returns-in-Err-Failed-clause-crash : goal.returns-in-Err-Failed-clause-crash
 returns-in-Err-Failed-clause-crash g c =
-    let can : IsExpandable (g.D.Store.size c.args.disk.now) c.args.size c.args.from.now.fields.sector
-    = (subst (λ (n : ℕ). IsExpandable n c.args.size c.args.from.now.fields.sector) c.len-len.ensures.len
-    (c.is_expandable.ensures.0 c.if-not-is_expandable.false)) in
+    let can : Expandable (g.D.Store.size c.args.disk.now) c.args.size c.args.from.now.fields.sector
+    = tested c.len-len.result (g.D.Store.size c.args.disk.now) c.args.size c.args.from.now.fields.sector
+    c.is_expandable.result c.is_expandable.ensures c.if-not-is_expandable.false c.len-len.ensures.len in
     let long : 262656 ≤ g.D.Store.size c.args.disk.now
     = long_enough c.args.from.now.fields (g.D.Store.size c.args.disk.now) (meets_standard c.args.from.now.slot c.args.from.now.fields (g.D.Store.size c.args.disk.now) c.requires.slot c.requires.meets) in
     lengthened (new_sealing c.args.p.now c.args.pim c.args.from.now.prf c.args.from.now) (expanded_fields c.args.size c.args.from.now.fields)
@@ -204,9 +204,9 @@ returns-in-Err-Failed-clause-crash g c =
 
 pub returns-in-Ok-rewrite-clause-either_carries : goal.returns-in-Ok-rewrite-clause-either_carries
 returns-in-Ok-rewrite-clause-either_carries g c =
-    let can : IsExpandable (g.D.Store.size c.args.disk.now) c.args.size c.args.from.now.fields.sector
-    = (subst (λ (n : ℕ). IsExpandable n c.args.size c.args.from.now.fields.sector) c.len-len.ensures.len
-    (c.is_expandable.ensures.0 c.if-not-is_expandable.false)) in
+    let can : Expandable (g.D.Store.size c.args.disk.now) c.args.size c.args.from.now.fields.sector
+    = tested c.len-len.result (g.D.Store.size c.args.disk.now) c.args.size c.args.from.now.fields.sector
+    c.is_expandable.result c.is_expandable.ensures c.if-not-is_expandable.false c.len-len.ensures.len in
     let long : 262656 ≤ g.D.Store.size c.args.disk.now
     = long_enough c.args.from.now.fields (g.D.Store.size c.args.disk.now) (meets_standard c.args.from.now.slot c.args.from.now.fields (g.D.Store.size c.args.disk.now) c.requires.slot c.requires.meets) in
     old_or_new Carries c.args.from.now.fields (g.D.Store.size c.args.disk.now) c.args.size
@@ -224,9 +224,9 @@ returns-in-Ok-rewrite-clause-either_carries g c =
 
 pub returns-in-Ok-rewrite-clause-either_opens : goal.returns-in-Ok-rewrite-clause-either_opens
 returns-in-Ok-rewrite-clause-either_opens g c =
-    let can : IsExpandable (g.D.Store.size c.args.disk.now) c.args.size c.args.from.now.fields.sector
-    = (subst (λ (n : ℕ). IsExpandable n c.args.size c.args.from.now.fields.sector) c.len-len.ensures.len
-    (c.is_expandable.ensures.0 c.if-not-is_expandable.false)) in
+    let can : Expandable (g.D.Store.size c.args.disk.now) c.args.size c.args.from.now.fields.sector
+    = tested c.len-len.result (g.D.Store.size c.args.disk.now) c.args.size c.args.from.now.fields.sector
+    c.is_expandable.result c.is_expandable.ensures c.if-not-is_expandable.false c.len-len.ensures.len in
     let long : 262656 ≤ g.D.Store.size c.args.disk.now
     = long_enough c.args.from.now.fields (g.D.Store.size c.args.disk.now) (meets_standard c.args.from.now.slot c.args.from.now.fields (g.D.Store.size c.args.disk.now) c.requires.slot c.requires.meets) in
     old_or_new IsOpened c.args.from.now.fields (g.D.Store.size c.args.disk.now) c.args.size
@@ -246,9 +246,9 @@ returns-in-Ok-rewrite-clause-either_opens g c =
 
 pub returns-in-Err-clause-either_carries : goal.returns-in-Err-clause-either_carries
 returns-in-Err-clause-either_carries g c =
-    let can : IsExpandable (g.D.Store.size c.args.disk.now) c.args.size c.args.from.now.fields.sector
-    = (subst (λ (n : ℕ). IsExpandable n c.args.size c.args.from.now.fields.sector) c.len-len.ensures.len
-    (c.is_expandable.ensures.0 c.if-not-is_expandable.false)) in
+    let can : Expandable (g.D.Store.size c.args.disk.now) c.args.size c.args.from.now.fields.sector
+    = tested c.len-len.result (g.D.Store.size c.args.disk.now) c.args.size c.args.from.now.fields.sector
+    c.is_expandable.result c.is_expandable.ensures c.if-not-is_expandable.false c.len-len.ensures.len in
     let long : 262656 ≤ g.D.Store.size c.args.disk.now
     = long_enough c.args.from.now.fields (g.D.Store.size c.args.disk.now) (meets_standard c.args.from.now.slot c.args.from.now.fields (g.D.Store.size c.args.disk.now) c.requires.slot c.requires.meets) in
     old_or_new Carries c.args.from.now.fields (g.D.Store.size c.args.disk.now) c.args.size
@@ -266,9 +266,9 @@ returns-in-Err-clause-either_carries g c =
 
 pub returns-in-Err-clause-either_opens : goal.returns-in-Err-clause-either_opens
 returns-in-Err-clause-either_opens g c =
-    let can : IsExpandable (g.D.Store.size c.args.disk.now) c.args.size c.args.from.now.fields.sector
-    = (subst (λ (n : ℕ). IsExpandable n c.args.size c.args.from.now.fields.sector) c.len-len.ensures.len
-    (c.is_expandable.ensures.0 c.if-not-is_expandable.false)) in
+    let can : Expandable (g.D.Store.size c.args.disk.now) c.args.size c.args.from.now.fields.sector
+    = tested c.len-len.result (g.D.Store.size c.args.disk.now) c.args.size c.args.from.now.fields.sector
+    c.is_expandable.result c.is_expandable.ensures c.if-not-is_expandable.false c.len-len.ensures.len in
     let long : 262656 ≤ g.D.Store.size c.args.disk.now
     = long_enough c.args.from.now.fields (g.D.Store.size c.args.disk.now) (meets_standard c.args.from.now.slot c.args.from.now.fields (g.D.Store.size c.args.disk.now) c.requires.slot c.requires.meets) in
     old_or_new IsOpened c.args.from.now.fields (g.D.Store.size c.args.disk.now) c.args.size
@@ -289,9 +289,9 @@ returns-in-Err-clause-either_opens g c =
 pub returns-in-Err-NoMemory-clause-either_carries :
     goal.returns-in-Err-NoMemory-clause-either_carries
 returns-in-Err-NoMemory-clause-either_carries g c =
-    let can : IsExpandable (g.D.Store.size c.args.disk.now) c.args.size c.args.from.now.fields.sector
-    = (subst (λ (n : ℕ). IsExpandable n c.args.size c.args.from.now.fields.sector) c.len-len.ensures.len
-    (c.is_expandable.ensures.0 c.if-not-is_expandable.false)) in
+    let can : Expandable (g.D.Store.size c.args.disk.now) c.args.size c.args.from.now.fields.sector
+    = tested c.len-len.result (g.D.Store.size c.args.disk.now) c.args.size c.args.from.now.fields.sector
+    c.is_expandable.result c.is_expandable.ensures c.if-not-is_expandable.false c.len-len.ensures.len in
     let long : 262656 ≤ g.D.Store.size c.args.disk.now
     = long_enough c.args.from.now.fields (g.D.Store.size c.args.disk.now) (meets_standard c.args.from.now.slot c.args.from.now.fields (g.D.Store.size c.args.disk.now) c.requires.slot c.requires.meets) in
     old_or_new Carries c.args.from.now.fields (g.D.Store.size c.args.disk.now) c.args.size
@@ -310,9 +310,9 @@ returns-in-Err-NoMemory-clause-either_carries g c =
 pub returns-in-Err-NoMemory-clause-either_opens :
     goal.returns-in-Err-NoMemory-clause-either_opens
 returns-in-Err-NoMemory-clause-either_opens g c =
-    let can : IsExpandable (g.D.Store.size c.args.disk.now) c.args.size c.args.from.now.fields.sector
-    = (subst (λ (n : ℕ). IsExpandable n c.args.size c.args.from.now.fields.sector) c.len-len.ensures.len
-    (c.is_expandable.ensures.0 c.if-not-is_expandable.false)) in
+    let can : Expandable (g.D.Store.size c.args.disk.now) c.args.size c.args.from.now.fields.sector
+    = tested c.len-len.result (g.D.Store.size c.args.disk.now) c.args.size c.args.from.now.fields.sector
+    c.is_expandable.result c.is_expandable.ensures c.if-not-is_expandable.false c.len-len.ensures.len in
     let long : 262656 ≤ g.D.Store.size c.args.disk.now
     = long_enough c.args.from.now.fields (g.D.Store.size c.args.disk.now) (meets_standard c.args.from.now.slot c.args.from.now.fields (g.D.Store.size c.args.disk.now) c.requires.slot c.requires.meets) in
     old_or_new IsOpened c.args.from.now.fields (g.D.Store.size c.args.disk.now) c.args.size
@@ -332,9 +332,9 @@ returns-in-Err-NoMemory-clause-either_opens g c =
 
 pub returns-in-Err-Failed-clause-either_carries : goal.returns-in-Err-Failed-clause-either_carries
 returns-in-Err-Failed-clause-either_carries g c =
-    let can : IsExpandable (g.D.Store.size c.args.disk.now) c.args.size c.args.from.now.fields.sector
-    = (subst (λ (n : ℕ). IsExpandable n c.args.size c.args.from.now.fields.sector) c.len-len.ensures.len
-    (c.is_expandable.ensures.0 c.if-not-is_expandable.false)) in
+    let can : Expandable (g.D.Store.size c.args.disk.now) c.args.size c.args.from.now.fields.sector
+    = tested c.len-len.result (g.D.Store.size c.args.disk.now) c.args.size c.args.from.now.fields.sector
+    c.is_expandable.result c.is_expandable.ensures c.if-not-is_expandable.false c.len-len.ensures.len in
     let long : 262656 ≤ g.D.Store.size c.args.disk.now
     = long_enough c.args.from.now.fields (g.D.Store.size c.args.disk.now) (meets_standard c.args.from.now.slot c.args.from.now.fields (g.D.Store.size c.args.disk.now) c.requires.slot c.requires.meets) in
     old_or_new Carries c.args.from.now.fields (g.D.Store.size c.args.disk.now) c.args.size
@@ -352,9 +352,9 @@ returns-in-Err-Failed-clause-either_carries g c =
 
 pub returns-in-Err-Failed-clause-either_opens : goal.returns-in-Err-Failed-clause-either_opens
 returns-in-Err-Failed-clause-either_opens g c =
-    let can : IsExpandable (g.D.Store.size c.args.disk.now) c.args.size c.args.from.now.fields.sector
-    = (subst (λ (n : ℕ). IsExpandable n c.args.size c.args.from.now.fields.sector) c.len-len.ensures.len
-    (c.is_expandable.ensures.0 c.if-not-is_expandable.false)) in
+    let can : Expandable (g.D.Store.size c.args.disk.now) c.args.size c.args.from.now.fields.sector
+    = tested c.len-len.result (g.D.Store.size c.args.disk.now) c.args.size c.args.from.now.fields.sector
+    c.is_expandable.result c.is_expandable.ensures c.if-not-is_expandable.false c.len-len.ensures.len in
     let long : 262656 ≤ g.D.Store.size c.args.disk.now
     = long_enough c.args.from.now.fields (g.D.Store.size c.args.disk.now) (meets_standard c.args.from.now.slot c.args.from.now.fields (g.D.Store.size c.args.disk.now) c.requires.slot c.requires.meets) in
     old_or_new IsOpened c.args.from.now.fields (g.D.Store.size c.args.disk.now) c.args.size

@@ -1,8 +1,9 @@
-use Rattle.std.proofs.Common.{◌∙◌, ℕ, [], ◌∷◌, false, inl, inr, length, ◌≡◌, ◌-◌, Err, refl, sym, ap, subst, arith}
+use Rattle.std.proofs.Common.{◌∙◌, ℕ, [], ◌∷◌, true, false, inl, inr, length, ◌≡◌, ◌-◌, Err, refl, sym, ap, subst, arith}
 use Rattle.std.specs.Prelude.{MatchOption}
+use Rattle.std.proofs.lemmas.Bool.{true_from_ne_false}
 use Rattle.vc_base.specs.Faults.{Rose}
 use Rattle.rand_chacha.specs.ChaCha.{ChaCha, of_seed}
-use Rattle.vol_expand.specs.Expanded.{expanded, IsExpandable}
+use Rattle.vol_expand.specs.Expanded.{expanded, is_expandable}
 use Rattle.vol_expand.specs.Stops.{PartsStay}
 use Rattle.vol_expand.proofs.Growing.{meets_standard}
 use Rattle.vc_outside.specs.Told.{Both, Grows}
@@ -13,7 +14,7 @@ use Rattle.vc_app.specs.Expand.{AtStop, expand_status, outcome, plan_of, promise
 use Rattle.vc_app.specs.Promise.{InLonger, Kept, seen, Unchanged, Within}
 use Rattle.vc_app.specs.Rewriting.{sealing}
 use Rattle.vc_app.specs.Status.{ended, work_status}
-use Rattle.vc_app.proofs.Expanding.{at_length, bad_size_comes, only_standard, parts_stay, plan_comes, rose_since, stops_known, surely, unopened_is_no_end, whatever_is_left}
+use Rattle.vc_app.proofs.Expanding.{at_length, bad_size_comes, only_standard, parts_stay, plan_comes, rose_since, stops_known, unopened_is_no_end, whatever_is_left}
 use Rattle.vc_app.proofs.PromiseIsKept.{all_done, fault_kept, memory_kept, on_ok_map, passed_on, refusal_kept, settled_kept}
 use Rattle.vc_app.proofs.Reading.{opened_front, opened_goes, opening_failed, whatever}
 use Rattle.vc_app.proofs.Rewriting.{made_of_known, reached}
@@ -37,7 +38,7 @@ returns-in_err-opened g c =
     c.open.ensures.unopened)
 
 -- the length may be longer, the parts stay, and a header opens after a crash
-longer : (g : Over) (c : After-expand g) → IsExpandable (g.D.Store.size c.args.disk.now) c.args.command.now.size c.in_ok-opened.opened.fields.sector
+longer : (g : Over) (c : After-expand g) → is_expandable (g.D.Store.size c.args.disk.now) c.args.command.now.size c.in_ok-opened.opened.fields.sector ≡ true
     → InLonger c.args.command.now.size (λ b x. PartsStay 512 (length b - 131072) b x)
     (λ b could x. MatchOption (opened c.args.command.now.access b) ⊥ (λ o. AtStop c.args.command.now o b could x))
     (seen g.D.Store g.O.Sink c.args.disk.now c.args.out.now) (seen g.D.Store g.O.Sink c.expand.new.disk c.args.out.now)
@@ -65,8 +66,8 @@ returns-in-Err-BadSize g c =
     let o = c.in_ok-opened.opened in
     let old = seen g.D.Store g.O.Sink c.args.disk.now c.args.out.now in
     let bad = ap (λ e. Err e) c.in-Err-BadSize.field-0-is in
-    let fails : ¬ IsExpandable old.size command.size o.fields.sector
-    = subst (λ (n : ℕ). ¬ IsExpandable n command.size o.fields.sector) c.open.ensures.size (c.in-Err-BadSize.ensures.bad_size.0 bad) in
+    let fails : is_expandable old.size command.size o.fields.sector ≡ false
+    = subst (λ (n : ℕ). is_expandable n command.size o.fields.sector ≡ false) c.open.ensures.size (c.in-Err-BadSize.ensures.bad_size.0 bad) in
     let unchanged : Unchanged old (seen g.D.Store g.O.Sink c.expand.new.disk c.args.out.now)
     = subst (λ d. Unchanged old (seen g.D.Store g.O.Sink d c.args.out.now)) (sym (c.in-Err-BadSize.ensures.nothing_changed bad))
     (record { same = record { image = c.open.ensures.image; size = c.open.ensures.size }; crash = c.open.ensures.crash }) in
@@ -85,8 +86,8 @@ pub returns-in-Err-DiskFault : goal.returns-in-Err-DiskFault
 returns-in-Err-DiskFault g c =
     let rose : Rose (g.D.Store.faults c.open.new.disk) (g.D.Store.faults c.expand.new.disk)
     = c.in-Err-DiskFault.ensures.cause.rose (ap (λ e. Err e) c.in-Err-DiskFault.field-0-is) in
-    let can = subst (λ (n : ℕ). IsExpandable n c.args.command.now.size c.in_ok-opened.opened.fields.sector) c.open.ensures.size
-    (surely _ _ _ (λ fails. let is = c.in-Err-DiskFault.ensures.bad_size.1 fails in let here = c.in-Err-DiskFault.field-0-is in cc)) in
+    let can = subst (λ (n : ℕ). is_expandable n c.args.command.now.size c.in_ok-opened.opened.fields.sector ≡ true) c.open.ensures.size
+    (true_from_ne_false _ (λ fails. let is = c.in-Err-DiskFault.ensures.bad_size.1 fails in let here = c.in-Err-DiskFault.field-0-is in cc)) in
     fault_kept (promise c.args.command.now c.args.random) (seen g.D.Store g.O.Sink c.args.disk.now c.args.out.now)
     (seen g.D.Store g.O.Sink c.expand.new.disk c.args.out.now)
     (λ t early. early.refuses c.in_ok-opened.ensures.in_range) (inr (longer g (goal.at.returns-in-Err-DiskFault g c).After-expand can))
@@ -95,8 +96,8 @@ returns-in-Err-DiskFault g c =
 
 pub returns-then-disk_failed : goal.returns-then-disk_failed
 returns-then-disk_failed g c =
-    let can = subst (λ (n : ℕ). IsExpandable n c.args.command.now.size c.in_ok-opened.opened.fields.sector) c.open.ensures.size
-    (surely _ _ _ (λ fails. let is = c.in-Err-NoMemory.ensures.bad_size.1 fails in let here = c.in-Err-NoMemory.field-0-is in cc)) in
+    let can = subst (λ (n : ℕ). is_expandable n c.args.command.now.size c.in_ok-opened.opened.fields.sector ≡ true) c.open.ensures.size
+    (true_from_ne_false _ (λ fails. let is = c.in-Err-NoMemory.ensures.bad_size.1 fails in let here = c.in-Err-NoMemory.field-0-is in cc)) in
     let rose : Rose (g.D.Store.faults c.args.disk.now) (g.D.Store.faults c.expand.new.disk)
     = rose_since (g.D.Store.faults c.args.disk.now) (g.D.Store.faults c.expand.new.disk)
     (omega (arith, c.open.ensures.later, c.expand.ensures.cause.later))
@@ -109,8 +110,8 @@ returns-then-disk_failed g c =
 
 pub returns-in-Err-NoMemory : goal.returns-in-Err-NoMemory
 returns-in-Err-NoMemory g c =
-    let can = subst (λ (n : ℕ). IsExpandable n c.args.command.now.size c.in_ok-opened.opened.fields.sector) c.open.ensures.size
-    (surely _ _ _ (λ fails. let is = c.in-Err-NoMemory.ensures.bad_size.1 fails in let here = c.in-Err-NoMemory.field-0-is in cc)) in
+    let can = subst (λ (n : ℕ). is_expandable n c.args.command.now.size c.in_ok-opened.opened.fields.sector ≡ true) c.open.ensures.size
+    (true_from_ne_false _ (λ fails. let is = c.in-Err-NoMemory.ensures.bad_size.1 fails in let here = c.in-Err-NoMemory.field-0-is in cc)) in
     let none = ap (λ e. Err e) c.in-Err-NoMemory.field-0-is in
     memory_kept (promise c.args.command.now c.args.random) (seen g.D.Store g.O.Sink c.args.disk.now c.args.out.now)
     (seen g.D.Store g.O.Sink c.expand.new.disk c.args.out.now)
@@ -124,7 +125,7 @@ returns-in-Err-NoMemory g c =
     (c.if-disk_failed.ensures ∙ c.new-counts.ensures.disk)
 
 -- the work is whole
-made : (g : Over) (c : After-finish g) → IsExpandable (g.D.Store.size c.args.disk.now) c.args.command.now.size c.in_ok-opened.opened.fields.sector
+made : (g : Over) (c : After-finish g) → is_expandable (g.D.Store.size c.args.disk.now) c.args.command.now.size c.in_ok-opened.opened.fields.sector ≡ true
     → Within (promise c.args.command.now c.args.random).reach
     (seen g.D.Store g.O.Sink c.args.disk.now c.args.out.now) (seen g.D.Store g.O.Sink c.expand.new.disk c.finish.new.out)
     → Kept (promise c.args.command.now c.args.random) (ended work_status c.finish.result)
@@ -160,7 +161,7 @@ made g c can within =
 
 pub returns-in_err-finish : goal.returns-in_err-finish
 returns-in_err-finish g c =
-    let can = subst (λ (n : ℕ). IsExpandable n c.args.command.now.size c.in_ok-opened.opened.fields.sector) c.open.ensures.size
+    let can = subst (λ (n : ℕ). is_expandable n c.args.command.now.size c.in_ok-opened.opened.fields.sector ≡ true) c.open.ensures.size
     c.in-Ok.ensures.expandable in
     let part = longer g (goal.at.returns-in_err-finish g c).After-expand can in
     passed_on expand_status (λ e. Work e) _ _ _ c.finish.result c.in_err-finish.field-0.0 c.from_residual-in_err-finish.result
@@ -169,7 +170,7 @@ returns-in_err-finish g c =
 
 pub returns : goal.returns
 returns g c =
-    let can = subst (λ (n : ℕ). IsExpandable n c.args.command.now.size c.in_ok-opened.opened.fields.sector) c.open.ensures.size
+    let can = subst (λ (n : ℕ). is_expandable n c.args.command.now.size c.in_ok-opened.opened.fields.sector ≡ true) c.open.ensures.size
     c.in-Ok.ensures.expandable in
     let part = longer g (goal.at.returns g c).After-expand can in
     all_done _ _ _ c.finish.result _ c.in_ok-finish.was (made g (goal.at.returns g c).After-finish can
