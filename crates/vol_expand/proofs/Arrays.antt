@@ -2,7 +2,7 @@
 --
 -- Start, sector size and master keys are the same. So a unit of the old volume has the same number and the same bytes
 -- in both images, and deciphers to the same bytes; the other units of the longer volume come behind these.
-use Rattle.std.proofs.Common.{◌≡◌, ◌≤◌, ◌<◌, ℕ, ◌+◌, ◌-◌, ◌*◌, ◌/◌, ◌%◌, List, ◌++◌, length, take, drop, Option, Some, None, refl, sym, ap, ◌∙◌, arith, length-drop, length-take-le, take_at}
+use Rattle.std.proofs.Common.{◌≡◌, ◌≤◌, ◌<◌, ℕ, ◌+◌, ◌-◌, ◌*◌, ◌/◌, List, ◌++◌, length, take, drop, Option, Some, None, refl, sym, ap, ◌∙◌, arith, length-drop, length-take-le, take_at}
 use Rattle.std.specs.Prelude.{IfSome}
 use Rattle.std.proofs.Math.Nat.{div-mul-le_self, mul-le-mul_left}
 use Rattle.std.proofs.lemmas.List.{drop-drop, drop-take, take-take}
@@ -113,8 +113,8 @@ keeps P slot k f more encrypted len b c meets whole fits there = record {
         ∙ there.begins
 
 -- of the images of a store, of which the volume's bytes stay
-pub arrays_begin : (a : Algorithm) (f : Fields) (more encrypted len : ℕ) (old new : Option (List ℕ)) → Meets f Standard len
-    → f.volume_size ≤ more → IfSome old (λ b. length b ≡ len) → Both old new (PartsStay 512 (len - 131072))
+pub arrays_begin : (a : Algorithm) (f : Fields) (more encrypted len : ℕ) (old new : Option (List ℕ))
+    → Meets f Standard len → f.volume_size ≤ more → IfSome old (λ b. length b ≡ len) → Both old new (PartsStay 512 (len - 131072))
     → Both old new (ArrayBegins a f (record f { volume_size = more; encrypted = encrypted }))
 arrays_begin a f more encrypted len None new meets fits whole stay = tt
 arrays_begin a f more encrypted len (Some b) None meets fits whole stay = stay

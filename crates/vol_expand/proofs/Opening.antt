@@ -1,10 +1,9 @@
 -- What opens after a crash at any moment of the call: the old header or the new backup, to a volume that begins with
 -- the old volume's bytes, and to an array that begins with the old one.
-use Rattle.std.proofs.Common.{◌≡◌, ◌≤◌, ◌<◌, ◌⊎◌, ℕ, ◌+◌, ◌-◌, Bool, true, List, length, take, drop, Option, Some, None, sym, ap, ◌∙◌, subst, inl, inr, arith, length-drop, length-take-le}
+use Rattle.std.proofs.Common.{◌≡◌, ◌≤◌, ◌<◌, ◌⊎◌, ℕ, ◌+◌, ◌-◌, Bool, true, List, length, take, drop, Option, Some, None, sym, ap, ◌∙◌, subst, inl, inr, arith, length-drop}
 use Rattle.std.specs.Prelude.{IfSome}
 use Rattle.std.proofs.lemmas.List.{length-take, take-take}
 use Rattle.vc_layout.specs.Layout.{IsContainerLength}
-use Rattle.vc_layout.specs.Laws.Sectors.{at_least_a_unit}
 use Rattle.vc_layout.specs.declared.slots.Slot.TheVariants.{Standard, BackupStandard}
 use Rattle.vc_header.specs.Header.{fields_of, Meets, Valid}
 use Rattle.vc_header.specs.declared.fields.Fields.{Fields}
@@ -111,7 +110,9 @@ module _ (P : Slot → Sealing → Fields → List ℕ → Type 0) (f : Fields) 
       (there : Holds P Standard old f (volume_of f b) d)
       (step : Expands (len - 131072) size k (expanded_fields size f) d c) where
     inside : f.start + f.volume_size ≤ length d
-    inside = part_inside f.volume_size f.start (volume_of f b) d (length-volume f len b meets whole) (some_bytes f len meets) there.begins
+    inside =
+        part_inside f.volume_size f.start (volume_of f b) d (length-volume f len b meets whole) (some_bytes f len meets)
+        there.begins
 
     same : volume_of f c ≡ volume_of f d
     same = step.parts f.start f.volume_size (omega (arith, meets.behind_headers)) (ends_before f len meets) inside
@@ -172,4 +173,5 @@ pub still_old : (P : Slot → Sealing → Fields → List ℕ → Type 0) (k : S
     → OldOrNew tells image could left P k f size
 still_old P k f len size tells None could left meets whole only modelled = tt
 still_old P k f len size tells (Some b) could left meets whole only modelled = λ old at_start c is_left.
-    inl (keeps P Standard old f f.volume_size f.encrypted len b c meets whole (omega arith) (at_start c (only modelled c is_left)))
+    inl (keeps P Standard old f f.volume_size f.encrypted len b c meets whole (omega arith)
+    (at_start c (only modelled c is_left)))

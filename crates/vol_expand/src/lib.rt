@@ -12,8 +12,8 @@
 //! ```
 //!
 //! The new backup is made lasting before the standard header is touched. So at each moment, in the middle of a write
-//! too, a crash leaves a header that opens, to a volume that begins with the old volume's bytes and deciphers to an array
-//! that begins with the old array.
+//! too, a crash leaves a header that opens, to a volume that begins with the old volume's bytes. Its array of deciphered
+//! sectors begins with the old array.
 //! Sizes and places are in bytes. The call takes no memory itself; a store over memory may, for its length.
 //! `docs/FORMAT.md`, "Expanding", has the picture.
 #![tactic(auto)]
