@@ -3,9 +3,9 @@
 -- Wherever it stops, a prefix of what is to be written was added: parts that were written whole, then a prefix of the
 -- part that was not.
 use Rattle.std.proofs.Common.{◌≡◌, ℕ, ◌+◌, ◌-◌, List, ◌++◌, length, take, drop, min, Option, Some, None, Result, Ok, Err, append_assoc, refl, sym, ap, ◌∙◌, subst, arith}
-use Rattle.std.specs.Prelude.{IfSome, OnOk}
+use Rattle.std.specs.Prelude.{OnOk}
 use Rattle.std.proofs.Math.Seq.{take-add}
-use Rattle.std.proofs.lemmas.List.{append-nil, take_rest, take_all, take_at, drop_at, take_min, take-append-le}
+use Rattle.std.proofs.lemmas.List.{append-nil, take_rest, take_at, drop_at, take_min, take-append-le}
 use Rattle.vc_outside.specs.Told.{Grows, GrowsByFront}
 
 -- one part after another
@@ -26,10 +26,6 @@ pub front_of_none : (a : Option (List ℕ)) (xs : List ℕ) → GrowsByFront a a
 front_of_none None xs = (0, tt)
 front_of_none (Some a) xs = (0, sym (append-nil a))
 
--- all is a front
-pub front_of_all : (a b : Option (List ℕ)) (xs : List ℕ) → Grows a b xs → GrowsByFront a b xs
-front_of_all a b xs f = (length xs, subst (λ (p : List ℕ). Grows a b p) (sym (take_all (length xs) xs (omega arith))) f)
-
 -- a prefix of a list is a prefix of what goes on with it
 front_more : (n : ℕ) (xs ys zs : List ℕ) → xs ++ take (min n (length ys)) ys ≡ take (length xs + min n (length ys)) (xs ++ (ys ++ zs))
 front_more n xs ys zs =
@@ -47,11 +43,6 @@ front_after a b c xs ys zs f g = (
       (grows_twice a b c xs (take (min g.0 (length ys)) ys) f
       (subst (λ (p : List ℕ). Grows b c p) (sym (take_min g.0 ys)) g.1)),
 )
-
--- what holds of some bytes holds of the bytes that the image makes of them, where it is told
-pub told : (image : Option (List ℕ)) (made : List ℕ → List ℕ) (xs : List ℕ) (P : List ℕ → Type 0) → IfSome image (λ b. xs ≡ made b) → P xs → IfSome image (λ b. P (made b))
-told None made xs P e h = tt
-told (Some b) made xs P e h = subst P e h
 
 -- what follows from a fact of an Ok
 pub on_ok : {T E : Type 0} (r : Result T E) (P Q : Type 0) → (P → Q) → OnOk r P → OnOk r Q

@@ -9,7 +9,7 @@ use Rattle.vc_base.proofs.Pieces.{joined_none}
 use Rattle.vc_base.specs.Bytes.{piece}
 use Rattle.vc_outside.specs.Told.{Grows, GrowsByFront}
 use Rattle.cascade_set.specs.Volume.{plain_units}
-use Rattle.vc_app.proofs.Growth.{grows_twice, front_after, front_of_all}
+use Rattle.vc_app.proofs.Growth.{grows_twice, front_after}
 use Rattle.vc_app.proofs.Units.{units-add}
 
 grows_none : (a : Option (List ℕ)) → Grows a a []
@@ -82,8 +82,3 @@ written_all None a b dec u at count end before = tt
 written_all (Some x) a b dec u at count end before =
     let all : at - u ≡ count = omega arith in
     subst (λ (k : ℕ). Grows a b (plain_units dec x u k)) all before
-
-pub front_told : (image : Option (List ℕ)) (a b : Option (List ℕ)) (made : List ℕ → List ℕ)
-    → IfSome image (λ x. Grows a b (made x)) → IfSome image (λ x. GrowsByFront a b (made x))
-front_told None a b made all = tt
-front_told (Some x) a b made all = front_of_all a b (made x) all

@@ -6,3 +6,5 @@ pub mod Unopened
 pub mod Hidden
 -- a volume from its opening on
 pub mod Opening
+-- data units that were read
+pub mod Units

@@ -4,7 +4,7 @@
 //! `format` makes a container, `hide` gives it a hidden volume, `info` shows a header, `cat` writes sectors of
 //! the plain volume, `passwd` gives a volume another password, `restore` writes a header from its backup, and
 //! `expand` makes a container longer.
-//! Everything streams: a call holds one buffer, of 64 KiB or for `cat` up to 1 MiB, whatever the container's size.
+//! Everything streams: a call holds one buffer of 64 KiB, or for `cat` two of up to 1 MiB, whatever the container's size.
 //!
 //! `run_serve` serves clients over a container: it opens the volume, also with a hidden one that is protected, has
 //! `vol_server` serve the clients, syncs the container and writes a line for each client. `specs/Serve.antt` has its

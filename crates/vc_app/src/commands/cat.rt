@@ -1,13 +1,17 @@
 //! `cat`: sectors of the plain volume, deciphered and written.
-ghost use Rattle.std.specs.Prelude.{◌≡◌, ◌≤◌, ◌+◌, ◌*◌, ◌/◌, ◌%◌, ◌^◌, IfSome, IsErrOf, OnOk, length, min};
+ghost use Rattle.std.specs.Prelude.{◌≡◌, ◌≤◌, ◌+◌, ◌*◌, ◌/◌, ◌%◌, ◌^◌, IfSome, IsErr, IsErrOf, OnOk, length, min};
+ghost use Rattle.std.specs.Thread.{IsSync};
+ghost use Rattle.vc_base.specs.Bytes.{in_pieces};
 ghost use Rattle.vc_base.specs.Faults.{HasCause};
 ghost use Rattle.cascade_set.specs.Volume.{plain_units};
 ghost use Rattle.kdf_hmac.specs.Pbkdf2.{IsPim};
 ghost use Rattle.vc_layout.specs.Layout.{IsSectorSize};
 ghost use Rattle.vc_header.specs.Header.{Meets};
+ghost use Rattle.vc_outside.specs.Crash.{Outcomes, Stays};
 ghost use Rattle.vc_outside.specs.Told.{Grows, GrowsByFront};
 ghost use Rattle.vc_app.specs.Cat.{asked, cat_status, promise};
 ghost use Rattle.vc_app.specs.declared.commands.cat.CatError.TheVariants.{Open, Work};
+ghost use Rattle.vc_app.specs.Laws.Units.{AreUnits};
 ghost use Rattle.vc_app.specs.Promise.{Kept, LeavesNoMore, seen};
 ghost use Rattle.vc_app.specs.Status.{ended};
 
@@ -20,11 +24,12 @@ use cipher_base::UnitCipher;
 use header_try::{OpenError, Opened};
 use sector_view::decipher_all;
 use std::alloc::Global;
-use std::thread::Threads;
+use std::mem::swap;
+use std::thread::{Threads, join_mut};
 use vc_layout::DATA_UNIT;
-use vc_outside::{Sink, Store};
+use vc_outside::{Failed, Sink, Store};
 
-/// The most data units that the buffer holds: 1 MiB, which several threads decipher in parts.
+/// The most data units that a buffer holds: 1 MiB, which several threads decipher in parts.
 const BUFFER_UNITS: u64 = 2048;
 
 /// What `cat` is asked: `count` sectors from `first` on, of the volume that is opened.
@@ -127,10 +132,7 @@ fn write_sectors<R: Threads + Sync, D: Store, O: Sink>(
     });
     let unit = opened.fields.start / DATA_UNIT + units_of(command.first, opened.fields.sector);
     let count = units_of(command.count, opened.fields.sector);
-    let Ok(mut buffer) = vec![in alloc; 0u8; count.min(BUFFER_UNITS) as usize * 512] else {
-        return Err(WorkError::NoMemory);
-    };
-    write_units(rt, disk, out, &keyed, unit, count, &mut buffer)
+    write_units(rt, alloc, disk, out, &keyed, unit, count)
 }
 
 // The data units that so many sectors have.
@@ -143,17 +145,17 @@ fn units_of(sectors: u64, sector: u32) -> u64
     u64::from(sector) / DATA_UNIT * sectors
 }
 
-// Writes `count` deciphered data units, of which the first has the number `unit`, by way of the buffer.
+// Writes `count` deciphered data units, of which the first has the number `unit`. While one part is deciphered, the next
+// one is read into a second buffer, and then the buffers change roles. A single part takes no second buffer.
 fn write_units<R: Threads + Sync, D: Store, O: Sink, C: UnitCipher + Sync>(
     rt: &R,
+    alloc: Global,
     disk: &mut D,
     out: &mut O,
     cipher: &C,
     unit: u64,
     count: u64,
-    buffer: &mut [u8],
 ) -> Result<(), WorkError>
-    requires room { length buffer.old ≡ min count 2048 * 512 }
     requires within { (unit + count) * 512 ≤ D.size disk.old }
     requires small { D.size disk.old ≤ 2 ^ 60 }
     ensures done { OnOk result (IfSome (D.image disk.old) (λ b.
@@ -167,19 +169,41 @@ fn write_units<R: Threads + Sync, D: Store, O: Sink, C: UnitCipher + Sync>(
     ensures crash { LeavesNoMore (seen ⟦<D as Store>⟧ ⟦<O as Sink>⟧ disk.old out.old)
         (seen ⟦<D as Store>⟧ ⟦<O as Sink>⟧ disk.new out.new) }
 {
+    let first = bytes_of_part(count);
+    let second = bytes_of_part(count - count.min(BUFFER_UNITS));
+    let Ok(mut current) = vec![in alloc; 0u8; first] else {
+        return Err(WorkError::NoMemory);
+    };
+    let Ok(mut ahead) = vec![in alloc; 0u8; second] else {
+        return Err(WorkError::NoMemory);
+    };
+    let Ok(()) = disk.read_at(unit * DATA_UNIT, &mut current) else {
+        return Err(WorkError::DiskFault);
+    };
     let mut at = unit;
     let mut left = count;
-    'parts: while left > 0 {
-        let part = left.min(BUFFER_UNITS);
-        let bytes = &mut buffer[..part as usize * 512];
-        write_part(rt, disk, out, cipher, at, bytes)?;
-        at += part;
-        left -= part;
+    'parts: while left > BUFFER_UNITS {
+        let next = bytes_of_part(left - BUFFER_UNITS);
+        ahead.truncate(next);
+        write_part(rt, disk, out, cipher, at, &mut current, &mut ahead)?;
+        swap(&mut current, &mut ahead);
+        at += BUFFER_UNITS;
+        left -= BUFFER_UNITS;
     }
-    Ok(())
+    let last = current.as_mut_slice();
+    decipher_all(rt, cipher, at, last);
+    write_all(out, last)
 }
 
-// Fills the bytes with data units, of which the first has the number `unit`, deciphers and writes them.
+// The length in bytes of the next part, if so many data units are left.
+fn bytes_of_part(units: u64) -> usize
+    ensures { result ≡ min units 2048 * 512 }
+{
+    units.min(BUFFER_UNITS) as usize * 512
+}
+
+// Deciphers and writes data units that were read, of which the first has the number `unit`, and meanwhile reads those
+// after them. If the read fails, what was deciphered is written all the same.
 fn write_part<R: Threads + Sync, D: Store, O: Sink, C: UnitCipher + Sync>(
     rt: &R,
     disk: &mut D,
@@ -187,10 +211,13 @@ fn write_part<R: Threads + Sync, D: Store, O: Sink, C: UnitCipher + Sync>(
     cipher: &C,
     unit: u64,
     bytes: &mut [u8],
+    ahead: &mut [u8],
 ) -> Result<(), WorkError>
     requires whole { length bytes.old % 512 ≡ 0 }
-    requires within { unit * 512 + length bytes.old ≤ D.size disk.old }
+    requires within { unit * 512 + length bytes.old + length ahead.old ≤ D.size disk.old }
     requires small { D.size disk.old ≤ 2 ^ 60 }
+    requires were_read { AreUnits (D.image disk.old) unit bytes.old }
+    ensures read { OnOk result (AreUnits (D.image disk.old) (unit + length bytes.old / 512) ahead.new) }
     ensures done { OnOk result (IfSome (D.image disk.old) (λ b.
         Grows (O.contents out.old) (O.contents out.new)
         (plain_units (C.deciphered cipher.now) b unit (length bytes.old / 512)))) }
@@ -204,9 +231,47 @@ fn write_part<R: Threads + Sync, D: Store, O: Sink, C: UnitCipher + Sync>(
     ensures crash { LeavesNoMore (seen ⟦<D as Store>⟧ ⟦<O as Sink>⟧ disk.old out.old)
         (seen ⟦<D as Store>⟧ ⟦<O as Sink>⟧ disk.new out.new) }
 {
-    let Ok(()) = disk.read_at(unit * DATA_UNIT, bytes) else {
+    let read = decipher_and_read(rt, disk, cipher, unit, bytes, ahead);
+    write_all(out, bytes)?;
+    let Ok(()) = read else {
         return Err(WorkError::DiskFault);
     };
-    decipher_all(rt, cipher, unit, bytes);
-    write_all(out, bytes)
+    Ok(())
+}
+
+// Deciphers data units, of which the first has the number `unit`, and meanwhile reads those after them.
+fn decipher_and_read<R: Threads + Sync, D: Store, C: UnitCipher + Sync>(
+    rt: &R,
+    disk: &mut D,
+    cipher: &C,
+    unit: u64,
+    bytes: &mut [u8],
+    ahead: &mut [u8],
+) -> Result<(), Failed>
+    requires whole { length bytes.old % 512 ≡ 0 }
+    requires within { unit * 512 + length bytes.old + length ahead.old ≤ D.size disk.old }
+    requires small { D.size disk.old ≤ 2 ^ 60 }
+    ensures deciphered { bytes.new ≡ in_pieces 512 (λ i u. C.deciphered cipher.now (unit + i) u) bytes.old }
+    ensures read { OnOk result (AreUnits (D.image disk.old) (unit + length bytes.old / 512) ahead.new) }
+    ensures cause { HasCause (D.faults disk.old) (D.faults disk.new) (IsErr result) }
+    ensures image { D.image disk.new ≡ D.image disk.old }
+    ensures size { D.size disk.new ≡ D.size disk.old }
+    ensures crash { Outcomes D.tells (D.moment disk.old) (D.moment disk.new) (D.left_since disk.old) (D.left_since disk.new)
+        (D.may_leave disk.old) (D.may_leave disk.new) Stays }
+{
+    let next = unit * DATA_UNIT + bytes.len() as u64;
+    let (_, read) = join_mut(
+        rt,
+        &mut ||
+            requires sync { IsSync R.row × IsSync C.row }
+            requires whole { length bytes.now % 512 ≡ 0 }
+            requires within { unit + length bytes.now / 512 ≤ 2 ^ 55 }
+            ensures { bytes.exit.now ≡ in_pieces 512
+                (λ i u. C.deciphered cipher.entry.now (unit + i) u) bytes.entry.now }
+        { decipher_all(rt, cipher, unit, bytes) },
+        &mut ||
+            requires { next + length ahead.now ≤ D.size disk.now }
+        { disk.read_at(next, ahead) },
+    );
+    read
 }

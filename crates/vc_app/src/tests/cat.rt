@@ -1,7 +1,7 @@
 //! `cat` over containers with a volume of known bytes.
 ghost use Rattle.std.specs.Prelude.{◌≡◌, ◌≤◌};
 
-use super::misses::{MissingStore, SlowSink, miss_named, way_named};
+use super::misses::{Miss, MissingStore, SlowSink, miss_named, way_named};
 use super::{column, number, run, run_into};
 use cascade_set::{Algorithm, Keyed, Keys};
 use cipher_base::UnitCipher;
@@ -19,17 +19,24 @@ const LONG: usize = 4_140 * 512;
 
 static CAT_ALL: &str = "cat|c1.vc|0|4140|--password|correct horse|--pim|1";
 
-// The volume's byte i: 00 to ff, twice, in sector 0, and no two sectors beside each other are the same.
+// The volume's byte i: 00 to ff, twice, in sector 0. No two sectors beside each other are the same, nor two that are
+// 2048 sectors apart.
 fn plain_byte(i: usize) -> u8 {
-    (i % 256) as u8 ^ (i / 512 % 256) as u8
+    (i % 256) as u8 ^ (i / 512 % 251) as u8
 }
 
 // Whether the bytes are a prefix of a volume's.
 fn is_prefix(bytes: &[u8]) -> bool {
+    are_from(0, bytes)
+}
+
+// Whether the bytes are a volume's from a sector on.
+fn are_from(sector: u64, bytes: &[u8]) -> bool {
+    let start = (sector as usize).wrapping_mul(512);
     bytes
         .iter()
         .enumerate()
-        .all(|(i, byte)| *byte == plain_byte(i))
+        .all(|(i, byte)| *byte == plain_byte(start.wrapping_add(i)))
 }
 
 // A container with a volume of so many bytes, password `correct horse`, PIM 1, a salt of zeros and the
@@ -152,6 +159,54 @@ fn a_missed_read_is_a_container_fault(rt: HostRuntime) -> Result<(), Fail> {
         assert_eq!(rt; out.bytes().len() as u64, number(row, 1), "{row}");
         assert_eq!(rt; disk.faults, number(row, 2), "{row}");
         assert!(rt; is_prefix(out.bytes()), "{row}");
+    }
+    Ok(())
+}
+
+// Bytes written, the first sector, and the command line: a part of 1 MiB that lacks a sector, a whole one, and a sector
+// more; then two parts and a sector, also up to the volume's end; and a sector of each of two parts.
+static SPANS: &str = "\
+1048064;0;cat|c1.vc|0|2047|--password|correct horse|--pim|1
+1048576;0;cat|c1.vc|0|2048|--password|correct horse|--pim|1
+1049088;0;cat|c1.vc|0|2049|--password|correct horse|--pim|1
+2097664;0;cat|c1.vc|0|4097|--password|correct horse|--pim|1
+2097664;43;cat|c1.vc|43|4097|--password|correct horse|--pim|1
+1024;2047;cat|c1.vc|2047|2|--password|correct horse|--pim|1";
+
+#[test]
+fn spans_of_one_part_and_more(rt: HostRuntime) -> Result<(), Fail> {
+    let whole = container(&rt, LONG)?;
+    for row in SPANS.split('\n') {
+        let (status, _disk, out) = run(&rt, column(row, 2), SureStore::new(whole.clone()?))?;
+        assert_eq!(rt; status.code(), 0, "{row}");
+        assert_eq!(rt; out.bytes().len() as u64, number(row, 0), "{row}");
+        assert!(rt; are_from(number(row, 1), out.bytes()), "{row}");
+    }
+    Ok(())
+}
+
+// Status, bytes written, the missed read, and how the sink takes its pieces. A part whose next one can't be read is
+// written first, so the sink's fault is the status; but being out of memory hides no fault of the container.
+static MISSED_READS_AND_SLOW_SINKS: &str = "\
+8;0;3;fails;0
+8;1048576;4;fails;1
+7;1048576;3;fails;1
+7;0;3;memory;0
+7;1048576;4;memory;1
+7;1048576;3;pieces;7";
+
+#[test]
+fn a_part_is_written_though_the_next_is_not_read(rt: HostRuntime) -> Result<(), Fail> {
+    let alloc = rt.alloc();
+    let whole = container(&rt, LONG)?;
+    for row in MISSED_READS_AND_SLOW_SINKS.split('\n') {
+        let disk = MissingStore::new(whole.clone()?, number(row, 2), Miss::Fails);
+        let sink = SlowSink::new(alloc, way_named(column(row, 3), number(row, 4)));
+        let (status, disk, out) = run_into(&rt, CAT_ALL, disk, sink)?;
+        assert_eq!(rt; u64::from(status.code()), number(row, 0), "{row}");
+        assert_eq!(rt; out.taken.len() as u64, number(row, 1), "{row}");
+        assert_eq!(rt; disk.faults, 1, "{row}");
+        assert!(rt; is_prefix(out.taken.as_slice()), "{row}");
     }
     Ok(())
 }

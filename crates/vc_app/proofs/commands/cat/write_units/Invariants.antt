@@ -1,8 +1,9 @@
--- The units before `at` were written.
+-- The units before `at` were written, and the ones that come then were read into `current`.
 use Rattle.std.proofs.Common.{◌≡◌, ◌≤◌, ◌+◌, ◌-◌, ◌*◌}
 use Rattle.std.specs.Prelude.{IfSome, length, min}
 use Rattle.vc_outside.specs.Told.{Grows}
 use Rattle.cascade_set.specs.Volume.{plain_units}
+use Rattle.vc_app.specs.Laws.Units.{AreUnits}
 use Rattle.vc_app.specs.Promise.{LeavesNoMore, seen}
 use Rattle.vc_app.proofs.commands.cat.write_units.Given as goal
 
@@ -10,7 +11,9 @@ abbrev pub invariant-parts : goal.invariant-parts
 invariant-parts g l = record {
   begun : l.fn.unit ≤ l.at;
   end : l.at + l.left ≡ l.fn.unit + l.fn.count;
-  room : length l.buffer ≡ min l.fn.count 2048 * 512;
+  room : length l.current.items ≡ min l.left 2048 * 512;
+  room_ahead : min (l.left - 2048) 2048 * 512 ≤ length l.ahead.items;
+  were_read : AreUnits (g.D.Store.image l.fn.disk) l.at l.current.items;
   written : IfSome (g.D.Store.image l.fn.disk) (λ b.
       Grows (g.O.Sink.contents l.fn.out) (g.O.Sink.contents l.out)
       (plain_units (g.C.UnitCipher.deciphered l.cipher) b l.fn.unit (l.at - l.fn.unit)));
