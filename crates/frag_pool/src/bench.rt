@@ -1,5 +1,5 @@
 //! The bench of a client.
-ghost use Rattle.std.specs.Prelude.{◌≡◌, ◌<◌, ◌≤◌, ◌++◌, ◌∷◌, [], ℕ, true, false, length};
+ghost use Rattle.std.specs.Prelude.{◌≡◌, ◌<◌, ◌≤◌, ◌↔◌, ◌++◌, ◌∷◌, [], ℕ, IsTrue, true, false, length};
 ghost use Rattle.std.specs.Prelude.{IfOk, IfErr, IfSome, IfNone, OnOk};
 ghost use Rattle.crossbeam_deque.specs.Handles.{worker_view, worker_flavor};
 ghost use Rattle.crossbeam_deque.specs.Handles.{worker_capacity, worker_index};
@@ -62,6 +62,13 @@ impl Bench {
         let pass = self.worker.another::<Admits>();
         let stealer = self.worker.stealer()?;
         Ok(Thief { stealer, pass })
+    }
+
+    /// Whether its pool has helpers.
+    pub fn has_helpers(&self) -> bool
+        ensures { IsTrue result ↔ 0 < helpers self.now }
+    {
+        self.helpers > 0
     }
 
     /// Puts a job last. If there is no room and no memory for more, the job comes back.

@@ -3,6 +3,7 @@
 -- read_entries ..          what a read adds; out is the buffer afterwards
 -- flush_entries ..         what a flush adds
 -- WriteAdds ..             what a write adds
+-- IsRefused result         the write has put nothing
 -- IsJudged ..              whether a write that fits is refused, after the history past
 -- Admitted ..              the history at the admission of a write, and what followed from it
 use Rattle.std.specs.Prelude.{◌≡◌, ◌↔◌, ℕ, true, false, List, [], ◌∷◌, Result, Ok, Err, Some, ⊤}
@@ -35,6 +36,12 @@ module _ {A : Type 0} (v : Volume) (caller first : ℕ) where
   WriteAdds bytes (Err (Fault m)) es = (now : List ℕ) × (k : ℕ) × (more : List (ℕ × FaultMark))
       × (es ≡ entry caller 0 (event.Put first bytes) ∷ entry caller 0 (event.Lost first now ((k, m) ∷ more)) ∷ [])
   WriteAdds bytes (Err NoMemory) es = es ≡ []
+
+-- the write has put nothing
+abbrev pub IsRefused : {A : Type 0} → Result A IoError → Type 0
+IsRefused (Ok done) = ⊥
+IsRefused (Err (Fault m)) = ⊥
+IsRefused (Err other) = ⊤
 
 abbrev pub IsReadResult : {A : Type 0} → Result A IoError → Type 0
 IsReadResult (Ok done) = ⊤

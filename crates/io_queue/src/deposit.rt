@@ -49,6 +49,7 @@ impl<S: Store, C: UnitCipher> Volume<S, C> {
         let mut act = DepositPart {
             cipher: &self.cipher,
             caller: pass.number(),
+            number: 0,
             index,
             unit,
             plain,

@@ -27,6 +27,8 @@ mod end;
 mod error;
 mod fetch;
 mod flush;
+mod help;
+mod news;
 mod open;
 mod points;
 mod read;

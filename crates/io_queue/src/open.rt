@@ -50,6 +50,7 @@ impl<S: Store, C: UnitCipher> Volume<S, C> {
                     cipher,
                     geometry,
                     ends: Signal::new(),
+                    work: Signal::new(),
                 };
                 Ok((volume, pass))
             }

@@ -1,5 +1,6 @@
 //! Volumes over stores in memory.
-ghost use Rattle.std.specs.Prelude.{◌≡◌, ◌<◌, ◌≤◌, ◌^◌, reverse};
+ghost use Rattle.std.specs.Prelude.{◌≡◌, ◌<◌, ◌≤◌, ◌^◌, reverse, true};
+ghost use Rattle.frag_pool.specs.Bench.{is_empty};
 ghost use Rattle.hist_lock.specs.Known.{view};
 ghost use Rattle.sector_view.specs.Laws.Turned.{is_block_turned, turned_back};
 ghost use Rattle.io_queue.specs.Pass.{IsPass, NothingOpen};
@@ -11,6 +12,7 @@ mod threads;
 
 use crate::{IoError, Volume};
 use cipher_base::{BlockCipher, UnitCipher, Xts};
+use frag_pool::{Bench, Pool};
 use hist_lock::Pass;
 use io_core::Core;
 use std::alloc::Global;
@@ -60,6 +62,7 @@ fn put<S: Store, C: UnitCipher, R: Threads + Wait + Sync, G: Gate>(
     alloc: Global,
     volume: &Volume<S, C>,
     pass: &mut Pass<Core<S, C>>,
+    bench: &mut Bench,
     gate: &G,
     first: u64,
     count: usize,
@@ -67,17 +70,19 @@ fn put<S: Store, C: UnitCipher, R: Threads + Wait + Sync, G: Gate>(
 ) -> Result<(), IoError>
     requires pass { IsPass volume.now.lock.table.shared.table_id volume.now.geometry volume.now.cipher pass.old.seat }
     requires open { NothingOpen (view pass.old.seat) }
+    requires empty { is_empty bench.old ≡ true }
     requires sector { volume.now.geometry.sector ≡ 512 }
     requires some { 0 < count }
     requires few { count ≤ 4096 }
     requires within { first < 2 ^ 55 }
     ensures pass { IsPass volume.now.lock.table.shared.table_id volume.now.geometry volume.now.cipher pass.new.seat }
     ensures open { NothingOpen (view pass.new.seat) }
+    ensures empty { is_empty bench.new ≡ true }
 {
     let Ok(bytes) = vec![in alloc; byte; 512 * count] else {
         return Err(IoError::NoMemory);
     };
-    volume.write(rt, alloc, pass, gate, first, bytes)
+    volume.write(rt, alloc, pass, bench, gate, first, bytes)
 }
 
 #[test]
@@ -121,6 +126,10 @@ fn a_denied_write_freezes_a_volume(rt: HostRuntime) -> Result<(), Fail> {
     ) else {
         return Err("no memory".into());
     };
+    let (mut benches, _) = Pool::new(rt.alloc(), 1, 0)?;
+    let Some(mut bench) = benches.pop() else {
+        return Err("no bench".into());
+    };
     let cases = [
         ("beside the protected sector", 0u64, 3usize, 1u8, Ok(())),
         ("past the end", 3, 2, 2, Err(IoError::Range)),
@@ -135,6 +144,7 @@ fn a_denied_write_freezes_a_volume(rt: HostRuntime) -> Result<(), Fail> {
             rt.alloc(),
             &volume,
             &mut pass,
+            &mut bench,
             &NoGate,
             first,
             count,

@@ -18,6 +18,8 @@ pub struct Volume<S: Store, C: UnitCipher> {
     pub(crate) geometry: Geometry,
     /// Tells when writes end.
     pub(crate) ends: Signal,
+    /// Tells when fragments are pushed, and when clients end.
+    pub(crate) work: Signal,
     ghost place: { IsVolume geometry },
 }
 

@@ -1,10 +1,11 @@
 //! Writing.
-ghost use Rattle.std.specs.Prelude.{◌≡◌, ◌≢◌, ◌<◌, ◌≤◌, ◌↔◌, ◌+◌, ◌-◌, ◌%◌, ◌^◌, ℕ, length, min, All, Err, IfSome, List};
+ghost use Rattle.std.specs.Prelude.{◌≡◌, ◌≢◌, ◌<◌, ◌≤◌, ◌↔◌, ◌+◌, ◌-◌, ◌%◌, ◌^◌, ℕ, length, min, All, Err, IfSome, List, true};
+ghost use Rattle.frag_pool.specs.Bench.{is_empty, SameBench};
 ghost use Rattle.hist_lock.specs.Known.{view};
 ghost use Rattle.io_core.specs.Fragments.{IsWaiting};
 ghost use Rattle.sector_model.specs.Array.{AreSectors, Fits, sectors_of};
 ghost use Rattle.sector_model.specs.declared.entry.Entry.{Entry};
-ghost use Rattle.io_queue.specs.Calls.{Admitted, WriteAdds};
+ghost use Rattle.io_queue.specs.Calls.{Admitted, IsRefused, WriteAdds};
 ghost use Rattle.io_queue.specs.Pass.{Call, IsPass, NothingOpen, shape, StandsFor};
 
 use crate::deposit::FRAGMENT_BYTES;
@@ -12,6 +13,7 @@ use crate::error::IoError;
 use crate::points::end_point;
 use crate::volume::Volume;
 use cipher_base::UnitCipher;
+use frag_pool::Bench;
 use hist_lock::Pass;
 use io_core::{Admit, Close, Core, Prepared};
 use std::alloc::Global;
@@ -37,18 +39,23 @@ impl<S: Store, C: UnitCipher> Volume<S, C> {
         rt: &R,
         alloc: Global,
         pass: &mut Pass<Core<S, C>>,
+        bench: &mut Bench,
         gate: &G,
         first: u64,
         bytes: Vec<u8>,
     ) -> Result<(), IoError>
         requires pass { IsPass self.now.lock.table.shared.table_id self.now.geometry self.now.cipher pass.old.seat }
         requires open { NothingOpen (view pass.old.seat) }
+        requires empty { is_empty bench.old ≡ true }
         requires some { 0 < length bytes.items }
         requires whole { AreSectors (shape self.now.geometry) bytes.items }
         requires small { length bytes.items ≤ 2 ^ 25 }
         requires within { first < 2 ^ 55 }
         ensures pass { IsPass self.now.lock.table.shared.table_id self.now.geometry self.now.cipher pass.new.seat }
         ensures open { NothingOpen (view pass.new.seat) }
+        ensures empty { is_empty bench.new ≡ true }
+        ensures bench { SameBench bench.old bench.new }
+        ensures unused { IsRefused result → bench.new ≡ bench.old }
         ensures call { (es : List Entry) × Call (view pass.old.seat) (view pass.new.seat) es
             × WriteAdds (shape self.now.geometry) (view pass.old.seat).number first bytes.items result es }
         ensures range { result ≡ Err IoError.Range
@@ -58,6 +65,7 @@ impl<S: Store, C: UnitCipher> Volume<S, C> {
         ensures no_memory { result ≡ Err IoError.NoMemory → view pass.new.seat ≡ view pass.old.seat }
         ensures stands { result ≢ Err IoError.NoMemory → StandsFor ⟦<S as Store>⟧ ⟦<C as UnitCipher>⟧ (view pass.new.seat) }
     {
+        let _ = bench;
         let count = self.sectors_of(&bytes);
         if !self.fits(first, count) {
             self.note_beyond(rt, pass, first, count);

@@ -44,6 +44,7 @@ impl<S: Store, C: UnitCipher> Act<Core<S, C>> for AskAdmission {
 pub(crate) struct DepositPart<'a, C> {
     pub cipher: &'a C,
     pub caller: u64,
+    pub number: u64,
     pub index: u64,
     pub unit: u64,
     pub plain: &'a [u8],
@@ -62,7 +63,7 @@ impl<'a, S: Store, C: UnitCipher> Act<Core<S, C>> for DepositPart<'a, C> {
         let _ = caller;
         let _ = value.deposit(
             self.caller,
-            0,
+            self.number,
             self.index,
             self.unit,
             self.plain,

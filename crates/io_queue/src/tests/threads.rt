@@ -1,5 +1,6 @@
 //! Threads that make requests to a volume over a store whose calls fail as planned.
-ghost use Rattle.std.specs.Prelude.{◌≡◌, IfSome};
+ghost use Rattle.std.specs.Prelude.{◌≡◌, true, IfOk, IfSome};
+ghost use Rattle.frag_pool.specs.Bench.{is_empty};
 ghost use Rattle.hist_lock.specs.Known.{view};
 ghost use Rattle.io_queue.specs.Laws.Idle.{IsIdle};
 ghost use Rattle.io_queue.specs.Pass.{IsPass, NothingOpen};
@@ -8,6 +9,7 @@ use super::requests::{Asks, LAST, Request, SECTORS};
 use super::{Turned, put};
 use crate::Volume;
 use cipher_base::{UnitCipher, Xts};
+use frag_pool::{Bench, Pool};
 use hist_lock::Pass;
 use io_core::Core;
 use std::alloc::{AllocError, Global};
@@ -41,10 +43,11 @@ const CIPHER: Xts<Turned> = Xts {
     tweak: Turned,
 };
 
-// A thread's pass and its requests.
+// A thread's pass, its bench and its requests.
 #[derive(Drop)]
 struct Client {
     pass: Pass<Core<MemStore, Xts<Turned>>>,
+    bench: Bench,
     requests: Vec<Request>,
 }
 
@@ -142,7 +145,7 @@ fn make_by_threads<R: Threads + Wait + Sync, G: Gate + Sync>(
     let mut clients = Vec::new(alloc);
     for requests in lists {
         clients.reserve(1)?;
-        let client = new_client(rt, volume, pass, requests);
+        let client = new_client(rt, volume, pass, new_bench(alloc)?, requests);
         clients.push_reserved(client);
     }
     let all = clients.len() as u64;
@@ -153,8 +156,9 @@ fn make_by_threads<R: Threads + Wait + Sync, G: Gate + Sync>(
         24,
         &|_, client: &mut Client|
             requires idle { IsIdle volume.now.lock.table.shared.table_id volume.now.geometry volume.now.cipher client.old.pass.seat }
+            requires empty { is_empty client.old.bench ≡ true }
             requires sector { volume.now.geometry.sector ≡ 512 }
-            ensures { IsIdle volume.entry.now.lock.table.shared.table_id volume.entry.now.geometry volume.entry.now.cipher client.new.pass.seat }
+            ensures idle { IsIdle volume.entry.now.lock.table.shared.table_id volume.entry.now.geometry volume.entry.now.cipher client.new.pass.seat }
         {
             begin_together(&begun, all);
             make_by(rt, alloc, gate, volume, client)
@@ -164,6 +168,7 @@ fn make_by_threads<R: Threads + Wait + Sync, G: Gate + Sync>(
     while let Some(client) = clients.pop() {
         let Client {
             pass: other,
+            bench: _,
             requests,
         } = client;
         volume.join(pass, other);
@@ -176,18 +181,33 @@ fn new_client<R: Threads + Wait + Sync>(
     rt: &R,
     volume: &Volume<MemStore, Xts<Turned>>,
     pass: &mut Pass<Core<MemStore, Xts<Turned>>>,
+    bench: Bench,
     requests: Vec<Request>,
 ) -> Client
     requires pass { IsPass volume.now.lock.table.shared.table_id volume.now.geometry volume.now.cipher pass.old.seat }
     requires open { NothingOpen (view pass.old.seat) }
+    requires empty { is_empty bench ≡ true }
     ensures pass { IsPass volume.now.lock.table.shared.table_id volume.now.geometry volume.now.cipher pass.new.seat }
     ensures open { NothingOpen (view pass.new.seat) }
     ensures idle { IsIdle volume.now.lock.table.shared.table_id volume.now.geometry volume.now.cipher result.pass.seat }
+    ensures empty { is_empty result.bench ≡ true }
 {
     Client {
         pass: volume.split(rt, pass),
+        bench,
         requests,
     }
+}
+
+// A bench of a pool without helpers.
+fn new_bench(alloc: Global) -> Result<Bench, AllocError>
+    ensures empty { IfOk result (λ b. is_empty b ≡ true) }
+{
+    let (mut benches, _) = Pool::new(alloc, 1, 0)?;
+    let Some(bench) = benches.pop() else {
+        unreachable!()
+    };
+    Ok(bench)
 }
 
 // Waits until all threads have begun, for some milliseconds at most.
@@ -209,6 +229,7 @@ fn make_by<R: Threads + Wait + Sync, G: Gate>(
     client: &mut Client,
 )
     requires idle { IsIdle volume.now.lock.table.shared.table_id volume.now.geometry volume.now.cipher client.old.pass.seat }
+    requires empty { is_empty client.old.bench ≡ true }
     requires sector { volume.now.geometry.sector ≡ 512 }
     ensures idle { IsIdle volume.now.lock.table.shared.table_id volume.now.geometry volume.now.cipher client.new.pass.seat }
 {
@@ -218,6 +239,7 @@ fn make_by<R: Threads + Wait + Sync, G: Gate>(
         gate,
         volume,
         &mut client.pass,
+        &mut client.bench,
         &mut client.requests,
     );
 }
@@ -228,16 +250,19 @@ fn make_all<R: Threads + Wait + Sync, G: Gate>(
     gate: &G,
     volume: &Volume<MemStore, Xts<Turned>>,
     pass: &mut Pass<Core<MemStore, Xts<Turned>>>,
+    bench: &mut Bench,
     requests: &mut [Request],
 )
     requires pass { IsPass volume.now.lock.table.shared.table_id volume.now.geometry volume.now.cipher pass.old.seat }
     requires open { NothingOpen (view pass.old.seat) }
+    requires empty { is_empty bench.old ≡ true }
     requires sector { volume.now.geometry.sector ≡ 512 }
     ensures pass { IsPass volume.now.lock.table.shared.table_id volume.now.geometry volume.now.cipher pass.new.seat }
     ensures open { NothingOpen (view pass.new.seat) }
+    ensures empty { is_empty bench.new ≡ true }
 {
     for request in requests.iter_mut() {
-        make(rt, alloc, gate, volume, pass, request);
+        make(rt, alloc, gate, volume, pass, bench, request);
     }
 }
 
@@ -247,17 +272,30 @@ fn make<R: Threads + Wait + Sync, G: Gate>(
     gate: &G,
     volume: &Volume<MemStore, Xts<Turned>>,
     pass: &mut Pass<Core<MemStore, Xts<Turned>>>,
+    bench: &mut Bench,
     request: &mut Request,
 )
     requires pass { IsPass volume.now.lock.table.shared.table_id volume.now.geometry volume.now.cipher pass.old.seat }
     requires open { NothingOpen (view pass.old.seat) }
+    requires empty { is_empty bench.old ≡ true }
     requires sector { volume.now.geometry.sector ≡ 512 }
     ensures pass { IsPass volume.now.lock.table.shared.table_id volume.now.geometry volume.now.cipher pass.new.seat }
     ensures open { NothingOpen (view pass.new.seat) }
+    ensures empty { is_empty bench.new ≡ true }
 {
     match request.asks {
         Asks::Write(first, byte) => {
-            request.result = put(rt, alloc, volume, pass, gate, u64::from(first), 2, byte);
+            request.result = put(
+                rt,
+                alloc,
+                volume,
+                pass,
+                bench,
+                gate,
+                u64::from(first),
+                2,
+                byte,
+            );
         }
         Asks::Read(first) => {
             request.result = volume.read(rt, pass, u64::from(first), &mut request.out);

@@ -1,8 +1,10 @@
--- Each request leaves the pass one of the volume, with nothing open.
+-- Each request leaves the pass one of the volume, with nothing open, and the bench empty.
+use Rattle.std.proofs.Common.{◌≡◌, true}
+use Rattle.frag_pool.specs.Bench.{is_empty}
 use Rattle.hist_lock.specs.Known.{view}
 use Rattle.io_queue.specs.Pass.{IsPass, NothingOpen}
 use Rattle.io_queue.proofs.tests.threads.make_all.Given as goal
 
 abbrev pub invariant-loop-request : goal.invariant-loop-request
 invariant-loop-request g l = IsPass l.volume.lock.table.shared.table_id l.volume.geometry l.volume.cipher l.pass.seat
-    × NothingOpen (view l.pass.seat)
+    × NothingOpen (view l.pass.seat) × (is_empty l.bench ≡ true)
