@@ -12,3 +12,5 @@ pub mod Closing
 pub mod Ending
 -- whether a write was refused
 pub mod Judging
+-- the jobs of a write, and its bench
+mod Fragments

@@ -21,3 +21,8 @@ units_within g first out v whole fits =
     let units : length out / 512 ≡ m * n = omega (arith, whole) in
     let bound : g.start / 512 + m * first + m * n ≤ 2 ^ 51 = in_units g.start g.sectors g.sector m first n (omega (arith, v.units)) v.small fits in
     omega (arith, units, bound)
+
+-- the same, from the unit with which they begin
+pub units_from : (g : Geometry) (first unit : ℕ) (bytes : List ℕ) → IsVolume g → AreSectors (shape g) bytes
+    → Fits (shape g) first (sectors_of (shape g) bytes) → unit ≡ g.start / 512 + g.sector / 512 * first → unit + length bytes / 512 ≤ 2 ^ 51
+units_from g first unit bytes v whole fits is = omega (arith, units_within g first bytes v whole fits, is)

@@ -4,3 +4,5 @@ pub mod Acts
 pub mod Opens
 -- a pass between two requests
 pub mod Idle
+-- what a write takes to have its fragments enciphered
+pub mod Works

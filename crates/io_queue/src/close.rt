@@ -25,7 +25,7 @@ impl<S: Store, C: UnitCipher> Volume<S, C> {
         ensures left { IfOk result (λ r. IsLeft ⟦<S as Store>⟧ ⟦<C as UnitCipher>⟧ (view r.1.seat) r.0) }
         ensures callers { IfOk result (λ r. All (λ e. Contains (numbers_of (view r.1.seat)) e.caller) (view r.1.seat).seen) }
         ensures err { IfErr result (λ r. (r.0.lock ≡ self.lock) × (r.0.geometry ≡ self.geometry)
-            × (r.0.cipher ≡ self.cipher) × (r.0.ends ≡ self.ends) × (r.0.work ≡ self.work)
+            × (r.0.cipher ≡ self.cipher) × (r.0.ends ≡ self.ends) × (r.0.deposits ≡ self.deposits) × (r.0.news ≡ self.news)
             × (r.1.seat.table_id ≡ pass.seat.table_id) × (view r.1.seat ≡ view pass.seat)) }
     {
         let Volume {
@@ -33,7 +33,8 @@ impl<S: Store, C: UnitCipher> Volume<S, C> {
             cipher,
             geometry,
             ends,
-            work,
+            deposits,
+            news,
         } = self;
         match lock.close(pass) {
             Ok((core, pass)) => Ok((core.into_store(), pass)),
@@ -43,7 +44,8 @@ impl<S: Store, C: UnitCipher> Volume<S, C> {
                     cipher,
                     geometry,
                     ends,
-                    work,
+                    deposits,
+                    news,
                 };
                 Err((volume, pass))
             }

@@ -45,7 +45,7 @@ impl<S: Store, C: UnitCipher> Volume<S, C> {
         act.answer
     }
 
-    // Asks until no fragment is waiting: another thread may be about to deposit one.
+    // Asks until no fragment is waiting. It sleeps while helpers have some that they didn't deposit yet.
     pub(crate) fn end<R: Threads + Wait + Sync>(
         &self,
         rt: &R,
@@ -62,11 +62,13 @@ impl<S: Store, C: UnitCipher> Volume<S, C> {
         ensures stands { StandsFor ⟦<S as Store>⟧ ⟦<C as UnitCipher>⟧ (view pass.new.seat) }
     {
         for _ in rt.forever() {
+            let seen = self.deposits.count();
             let answer = self.end_once(rt, pass, first, count);
             if !is_waiting(&answer) {
                 self.ends.tell();
                 return answer;
             }
+            self.deposits.wait(rt, seen);
         }
         unreachable!()
     }

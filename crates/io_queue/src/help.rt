@@ -1,6 +1,12 @@
-//! Help with the writes of other threads.
-ghost use Rattle.std.specs.Prelude.{◌≡◌, [], false, IsTrue, List};
-ghost use Rattle.frag_pool.specs.Bench.{OneMore, stolen};
+//! The jobs of a write, which the writer and helpers share.
+//!
+//! ```text
+//!   writer   push all | tell news | take one, encipher, deposit it; again until none is left | sleep until helpers have
+//!            deposited theirs
+//!   helper   sleep until news | steal one, encipher, deposit it, tell that | again until none is left
+//! ```
+ghost use Rattle.std.specs.Prelude.{◌≡◌, [], false, true, IsTrue, List};
+ghost use Rattle.frag_pool.specs.Bench.{is_empty, OneMore, SameBench, stolen};
 ghost use Rattle.frag_pool.specs.declared.job.Job.{Job};
 ghost use Rattle.hist_lock.specs.Known.{view};
 ghost use Rattle.sector_model.specs.History.{Write};
@@ -11,7 +17,7 @@ use crate::points::fragment_points;
 use crate::volume::Volume;
 use crate::write_acts::DepositPart;
 use cipher_base::UnitCipher;
-use frag_pool::{Helper, Job};
+use frag_pool::{Bench, Helper, Job};
 use hist_lock::Pass;
 use io_core::Core;
 use std::sync::Wait;
@@ -47,6 +53,53 @@ impl<S: Store, C: UnitCipher> Volume<S, C> {
         self.turn(rt, pass, &mut act);
     }
 
+    // Pushes the jobs of an admitted write, and tells helpers. It does itself what the bench has no room for.
+    pub(crate) fn push_all<R: Threads + Wait + Sync, G: Gate>(
+        &self,
+        rt: &R,
+        pass: &mut Pass<Core<S, C>>,
+        bench: &mut Bench,
+        gate: &G,
+        jobs: Vec<Job>,
+    )
+        requires pass { IsPass self.now.lock.table.shared.table_id self.now.geometry self.now.cipher pass.old.seat }
+        ensures pass { IsPass self.now.lock.table.shared.table_id self.now.geometry self.now.cipher pass.new.seat }
+        ensures call { Call (view pass.old.seat) (view pass.new.seat) [] }
+        ensures open { (ws : List Write) → Opens (view pass.old.seat) ws → Opens (view pass.new.seat) ws }
+        ensures bench { SameBench bench.old bench.new }
+    {
+        for job in jobs {
+            if let Err(job) = bench.push(job) {
+                self.deposit_job(rt, pass, gate, job);
+            }
+        }
+        self.news.tell();
+    }
+
+    // Enciphers and deposits the jobs on the bench that no helper takes.
+    pub(crate) fn take_all<R: Threads + Wait + Sync, G: Gate>(
+        &self,
+        rt: &R,
+        pass: &mut Pass<Core<S, C>>,
+        bench: &mut Bench,
+        gate: &G,
+    )
+        requires pass { IsPass self.now.lock.table.shared.table_id self.now.geometry self.now.cipher pass.old.seat }
+        ensures pass { IsPass self.now.lock.table.shared.table_id self.now.geometry self.now.cipher pass.new.seat }
+        ensures call { Call (view pass.old.seat) (view pass.new.seat) [] }
+        ensures open { (ws : List Write) → Opens (view pass.old.seat) ws → Opens (view pass.new.seat) ws }
+        ensures empty { is_empty bench.new ≡ true }
+        ensures bench { SameBench bench.old bench.new }
+    {
+        for _ in rt.forever() {
+            match bench.take() {
+                Some(job) => self.deposit_job(rt, pass, gate, job),
+                None => return,
+            }
+        }
+        unreachable!()
+    }
+
     /// Gets a fragment from the bench of any client, enciphers it and deposits it as its client would, in one
     /// turn. False if each bench in turn had none. It adds no entry and takes no memory.
     pub fn help_one<R: Threads + Wait + Sync, G: Gate>(
@@ -68,6 +121,7 @@ impl<S: Store, C: UnitCipher> Volume<S, C> {
         match helper.steal(rt) {
             Some(job) => {
                 self.deposit_job(rt, pass, gate, job);
+                self.deposits.tell();
                 true
             }
             None => false,

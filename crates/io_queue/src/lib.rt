@@ -38,6 +38,7 @@ mod split;
 mod tests;
 mod turn;
 mod volume;
+mod work;
 mod write;
 mod write_acts;
 

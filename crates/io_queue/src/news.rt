@@ -14,16 +14,16 @@ use vc_outside::Store;
 impl<S: Store, C: UnitCipher> Volume<S, C> {
     /// How many events a helper was told of.
     pub fn news(&self) -> u64 {
-        self.work.count()
+        self.news.count()
     }
 
     /// Sleeps until there was another event than those of `seen`. It may also return for no reason.
     pub fn wait_for_news<R: Wait>(&self, rt: &R, seen: u64) {
-        self.work.wait(rt, seen);
+        self.news.wait(rt, seen);
     }
 
     /// Tells helpers to look again.
     pub fn tell_news(&self) {
-        self.work.tell();
+        self.news.tell();
     }
 }

@@ -50,7 +50,8 @@ impl<S: Store, C: UnitCipher> Volume<S, C> {
                     cipher,
                     geometry,
                     ends: Signal::new(),
-                    work: Signal::new(),
+                    deposits: Signal::new(),
+                    news: Signal::new(),
                 };
                 Ok((volume, pass))
             }

@@ -1,7 +1,7 @@
-//! Sleeping until writes end.
+//! Sleeping until an event.
 //!
 //! ```text
-//!   who waits     seen := count;  asks in a turn;  waiting += 1;  park while count is seen;  waiting -= 1
+//!   who waits     seen := count;  looks;  waiting += 1;  park while count is seen;  waiting -= 1
 //!   who tells     count += 1;  if waiting isn't 0, wake all
 //! ```
 //!
@@ -43,5 +43,40 @@ impl Signal {
         self.waiting.fetch_add(1, SeqCst);
         self.count.park(rt, (seen & 0xffff_ffff) as u32);
         self.waiting.fetch_sub(1, SeqCst);
+    }
+}
+
+#[cfg(test)]
+mod tests {
+    use super::*;
+    use std::hint::spin_loop;
+    use std::thread;
+
+    // Sleeps until the first event.
+    fn sleep<R: Wait>(rt: &R, signal: &Signal) {
+        for _ in rt.forever() {
+            if signal.count() != 0 {
+                break;
+            }
+            signal.wait(rt, 0);
+        }
+    }
+
+    // Tells it once the other thread sleeps or is about to.
+    fn wake(signal: &Signal) {
+        for _ in 0..1_000_000_000u64 {
+            if signal.waiting.load(SeqCst) != 0 {
+                break;
+            }
+            spin_loop();
+        }
+        signal.tell();
+    }
+
+    #[test]
+    fn who_sleeps_is_woken_by_an_event(rt: HostRuntime) {
+        let signal = Signal::new();
+        thread::join(&rt, || sleep(&rt, &signal), || wake(&signal));
+        assert_eq!(rt; signal.count(), 1);
     }
 }

@@ -18,8 +18,10 @@ pub struct Volume<S: Store, C: UnitCipher> {
     pub(crate) geometry: Geometry,
     /// Tells when writes end.
     pub(crate) ends: Signal,
+    /// Tells when helpers deposit fragments.
+    pub(crate) deposits: Signal,
     /// Tells when fragments are pushed, and when clients end.
-    pub(crate) work: Signal,
+    pub(crate) news: Signal,
     ghost place: { IsVolume geometry },
 }
 

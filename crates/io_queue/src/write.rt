@@ -1,34 +1,33 @@
 //! Writing.
-ghost use Rattle.std.specs.Prelude.{◌≡◌, ◌≢◌, ◌<◌, ◌≤◌, ◌↔◌, ◌+◌, ◌-◌, ◌%◌, ◌^◌, ℕ, length, min, All, Err, IfSome, List, true};
+ghost use Rattle.std.specs.Prelude.{◌≡◌, ◌≢◌, ◌<◌, ◌≤◌, ◌↔◌, ◌+◌, ◌-◌, ◌/◌, ◌%◌, ◌^◌, length, All, Err, IfSome, List, true};
 ghost use Rattle.frag_pool.specs.Bench.{is_empty, SameBench};
 ghost use Rattle.hist_lock.specs.Known.{view};
 ghost use Rattle.io_core.specs.Fragments.{IsWaiting};
 ghost use Rattle.sector_model.specs.Array.{AreSectors, Fits, sectors_of};
 ghost use Rattle.sector_model.specs.declared.entry.Entry.{Entry};
 ghost use Rattle.io_queue.specs.Calls.{Admitted, IsRefused, WriteAdds};
+ghost use Rattle.io_queue.specs.Laws.Works.{IsWorkOf};
 ghost use Rattle.io_queue.specs.Pass.{Call, IsPass, NothingOpen, shape, StandsFor};
 
-use crate::deposit::FRAGMENT_BYTES;
 use crate::error::IoError;
 use crate::points::end_point;
 use crate::volume::Volume;
+use crate::work::{Work, is_shared};
 use cipher_base::UnitCipher;
 use frag_pool::Bench;
 use hist_lock::Pass;
 use io_core::{Admit, Close, Core, Prepared};
 use std::alloc::Global;
-use std::cmp::min;
 use std::sync::Wait;
 use std::thread::Threads;
 use vc_outside::{Gate, Store};
 
-// What a write takes before it is admitted: its place among the pending writes, its data once more, which is
-// enciphered after the admission, and room for a fragment.
+// What a write takes before it is admitted: its place among the pending writes, and what its fragments are
+// enciphered in after the admission.
 #[derive(Drop)]
 struct Memory {
     write: Prepared,
-    plain: Vec<u8>,
-    room: Vec<u8>,
+    work: Work,
 }
 
 impl<S: Store, C: UnitCipher> Volume<S, C> {
@@ -65,27 +64,23 @@ impl<S: Store, C: UnitCipher> Volume<S, C> {
         ensures no_memory { result ≡ Err IoError.NoMemory → view pass.new.seat ≡ view pass.old.seat }
         ensures stands { result ≢ Err IoError.NoMemory → StandsFor ⟦<S as Store>⟧ ⟦<C as UnitCipher>⟧ (view pass.new.seat) }
     {
-        let _ = bench;
         let count = self.sectors_of(&bytes);
         if !self.fits(first, count) {
             self.note_beyond(rt, pass, first, count);
             return Err(IoError::Range);
         }
-        let Some(memory) = prepare(alloc, pass.number(), first, bytes) else {
+        let unit = self.unit_of(first);
+        let shared = is_shared(bench, &bytes);
+        let Some(memory) = prepare(alloc, pass.number(), first, unit, shared, bytes) else {
             return Err(IoError::NoMemory);
         };
-        let Memory {
-            write,
-            plain,
-            mut room,
-        } = memory;
+        let Memory { write, work } = memory;
         match self.admit(rt, pass, write) {
             Admit::Denied(_) => Err(IoError::Denied),
             Admit::Frozen(_) => Err(IoError::Frozen),
             Admit::Later(_) => unreachable!(),
             Admit::In => {
-                let unit = self.unit_of(first);
-                self.deposit_all(rt, pass, gate, unit, &plain, &mut room);
+                self.deposit_work(rt, pass, bench, gate, unit, work);
                 let end = self.end(rt, pass, first, count);
                 end_point(gate, pass.number());
                 match end {
@@ -98,20 +93,25 @@ impl<S: Store, C: UnitCipher> Volume<S, C> {
     }
 }
 
-// Takes the memory for a write.
-fn prepare(alloc: Global, caller: u64, first: u64, bytes: Vec<u8>) -> Option<Memory>
+// Takes the memory for a write, whose first data unit is `unit`.
+fn prepare(
+    alloc: Global,
+    caller: u64,
+    first: u64,
+    unit: u64,
+    shared: bool,
+    bytes: Vec<u8>,
+) -> Option<Memory>
     requires some { 0 < length bytes.items }
     requires whole { length bytes.items % 512 ≡ 0 }
     requires small { length bytes.items ≤ 2 ^ 25 }
     requires within { first ≤ 2 ^ 55 - 65536 }
+    requires units { unit + length bytes.items / 512 ≤ 2 ^ 51 }
     ensures write { IfSome result (λ m. (m.write.caller ≡ caller) × (m.write.number ≡ 0) × (m.write.first ≡ first)
         × (m.write.bytes ≡ bytes) × All IsWaiting m.write.parts.items) }
-    ensures plain { IfSome result (λ m. m.plain.items ≡ bytes.items) }
-    ensures room { IfSome result (λ m. length m.room.items ≡ min (length bytes.items) 262144) }
+    ensures work { IfSome result (λ m. IsWorkOf caller unit bytes.items m.work) }
 {
-    let mut plain = Vec::with_capacity(alloc, bytes.len()).ok()?;
-    plain.extend_from_slice(&bytes).ok()?;
-    let room = vec![in alloc; 0u8; min(bytes.len(), FRAGMENT_BYTES)].ok()?;
+    let work = Work::new(alloc, caller, unit, shared, &bytes)?;
     let write = Prepared::new(alloc, caller, 0, first, bytes).ok()?;
-    Some(Memory { write, plain, room })
+    Some(Memory { write, work })
 }
