@@ -224,6 +224,10 @@ choice_of us = or_default choice.Any choice_in (value_of (codes "kind") us)
 abbrev pub is_backup : List Use → Bool
 is_backup us = is_some (value_of (codes "backup") us)
 
+-- each client's bytes begin with a handshake
+abbrev pub has_handshake : List Use → Bool
+has_handshake us = is_some (value_of (codes "handshake") us)
+
 abbrev pub helpers_of : List Use → Option ℕ
 helpers_of us = or_default 2 (number_within 0 8) (value_of (codes "helpers") us)
 
@@ -282,8 +286,8 @@ pub data Line : Type 0 where
   restore : Text → Text → List ℕ → ℕ → Kind → Line
   -- path, size, password, random key, PIM, whether there is no hidden volume
   expand : Text → ℕ → Text → List ℕ → ℕ → Bool → Line
-  -- path, password, PIM, kind, protecting password and its PIM, helpers, workers
-  serve : Text → Text → ℕ → Kind → Option (Text × ℕ) → ℕ → ℕ → Line
+  -- path, password, PIM, kind, protecting password and its PIM, helpers, workers, whether clients begin with a handshake
+  serve : Text → Text → ℕ → Kind → Option (Text × ℕ) → ℕ → ℕ → Bool → Line
   drill : ℕ → Line
 
 -- one value more of a command, if it is there
@@ -328,9 +332,9 @@ expand_of us =
 
 abbrev pub serve_of : List Use → Option Line
 serve_of us =
-    Some (λ path password pim protect kind helpers workers. serve path password pim kind protect helpers workers)
-    ⊗ path_in us ⊗ password_of (codes "password") us ⊗ pim_of (codes "pim") us ⊗ protect_of us ⊗ tried_by_serve us
-    ⊗ helpers_of us ⊗ workers_of us
+    Some (λ path password pim protect kind helpers workers handshake.
+    serve path password pim kind protect helpers workers handshake) ⊗ path_in us ⊗ password_of (codes "password") us ⊗ pim_of (codes "pim") us ⊗ protect_of us
+    ⊗ tried_by_serve us ⊗ helpers_of us ⊗ workers_of us ⊗ Some (has_handshake us)
 
 abbrev pub drill_of : List Use → Option Line
 drill_of us = Some (λ n. drill n) ⊗ drill_number_of us
@@ -368,7 +372,8 @@ commands =
     ∷ row (codes "passwd") (codes "PATH") (codes "password new random pim new-pim new-prf kind") (codes "backup") passwd_of
     ∷ row (codes "restore") (codes "PATH") (codes "password random pim kind") [] restore_of
     ∷ row (codes "expand") (codes "PATH") (codes "size password random pim") (codes "no-hidden") expand_of
-    ∷ row (codes "serve") (codes "PATH") (codes "password pim kind protect protect-pim helpers workers") (codes "backup") serve_of
+    ∷ row (codes "serve") (codes "PATH") (codes "password pim kind protect protect-pim helpers workers")
+    (codes "backup handshake") serve_of
     ∷ row (codes "drill") (codes "N") [] [] drill_of
     ∷ []
 

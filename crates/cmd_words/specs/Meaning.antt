@@ -15,8 +15,8 @@ meaning (Passwd path password new_password random pim new_pim new_prf kind) =
     passwd (string_bytes path) password new_password random pim new_pim new_prf kind
 meaning (Restore path password random pim kind) = restore (string_bytes path) password random pim kind
 meaning (Expand path size password random pim no_hidden) = expand (string_bytes path) size password random pim no_hidden
-meaning (Serve path password pim kind protect helpers workers) =
-    serve (string_bytes path) password pim kind protect helpers workers
+meaning (Serve path password pim kind protect helpers workers handshake) =
+    serve (string_bytes path) password pim kind protect helpers workers handshake
 meaning (Drill n) = drill n
 
 -- the path that a command names
@@ -28,5 +28,5 @@ path_of (cat path first count password pim kind) = Some path
 path_of (passwd path password new_password random pim new_pim new_prf kind) = Some path
 path_of (restore path password random pim kind) = Some path
 path_of (expand path size password random pim no_hidden) = Some path
-path_of (serve path password pim kind protect helpers workers) = Some path
+path_of (serve path password pim kind protect helpers workers handshake) = Some path
 path_of (drill n) = None

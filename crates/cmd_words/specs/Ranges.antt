@@ -27,5 +27,5 @@ IsInRange (cat path first count password pim kind) = IsPim pim
 IsInRange (passwd path password new_password random pim new_pim new_prf kind) = IsPasswdInRange pim new_pim
 IsInRange (restore path password random pim kind) = IsPim pim
 IsInRange (expand path size password random pim no_hidden) = IsPim pim
-IsInRange (serve path password pim kind protect helpers workers) = IsServeInRange pim protect helpers workers
+IsInRange (serve path password pim kind protect helpers workers handshake) = IsServeInRange pim protect helpers workers
 IsInRange (drill n) = n < 2 ^ 32

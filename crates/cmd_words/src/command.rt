@@ -82,6 +82,8 @@ pub enum Command {
         protect: Option<(Password, u32)>,
         helpers: u32,
         workers: u32,
+        /// Each client's bytes begin with the handshake of NBD.
+        handshake: bool,
     },
     Drill {
         n: u64,

@@ -102,7 +102,7 @@ pub(crate) fn form_of(name: Name) -> Form
                 "helpers",
                 "workers",
             ],
-            flags: &["backup"],
+            flags: &["backup", "handshake"],
         },
         Name::Drill => Form {
             positions: &["N"],

@@ -1,7 +1,7 @@
 //! What is given: the value of each position and option, and the flags.
 ghost use Rattle.std.specs.Prelude.{◌≡◌, ◌≤◌, ◌<◌, ◌^◌, IfSome, codes, option_map};
 ghost use Rattle.kdf_hmac.specs.Pbkdf2.{IsPim};
-ghost use Rattle.cmd_words.specs.Line.{algorithm_of, choice_of, drill_number_of, helpers_of};
+ghost use Rattle.cmd_words.specs.Line.{algorithm_of, choice_of, drill_number_of, has_handshake, helpers_of};
 ghost use Rattle.cmd_words.specs.Line.{is_backup, new_prf_of, no_hidden_of, number_of, password_of, perhaps};
 ghost use Rattle.cmd_words.specs.Line.{password_in, pim_in, pim_of, prf_of, random_of, value_of};
 ghost use Rattle.cmd_words.specs.Line.{sector_of, workers_of};
@@ -31,6 +31,12 @@ pub(crate) fn is_backup(matches: &ArgMatches<'_>) -> bool
     ensures { result ≡ is_backup (uses_found matches.now) }
 {
     value(matches, "backup").is_some()
+}
+
+pub(crate) fn has_handshake(matches: &ArgMatches<'_>) -> bool
+    ensures { result ≡ has_handshake (uses_found matches.now) }
+{
+    value(matches, "handshake").is_some()
 }
 
 pub(crate) fn no_hidden_of(matches: &ArgMatches<'_>) -> Option<bool>

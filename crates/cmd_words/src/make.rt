@@ -11,9 +11,9 @@ ghost use Rattle.cmd_words.specs.Laws.{uses_found};
 use crate::choice::{Choice, kind_of};
 use crate::command::Command;
 use crate::given::{
-    algorithm_of, choice_of, drill_number_of, helpers_of, is_backup, new_prf_of, no_hidden_of,
-    number_of, password_of, pim_of, prf_of, protect_password_of, protect_pim_of, random_of,
-    sector_of, workers_of,
+    algorithm_of, choice_of, drill_number_of, has_handshake, helpers_of, is_backup, new_prf_of,
+    no_hidden_of, number_of, password_of, pim_of, prf_of, protect_password_of, protect_pim_of,
+    random_of, sector_of, workers_of,
 };
 use clap::ArgMatches;
 use kdf_hmac::Password;
@@ -254,6 +254,7 @@ pub(crate) fn make_serve(matches: &ArgMatches<'_>, path: Option<String>) -> Opti
     let kind = tried_by_serve(matches, &protect)?;
     let helpers = helpers_of(matches)?;
     let workers = workers_of(matches)?;
+    let handshake = has_handshake(matches);
     Some(Command::Serve {
         path,
         password,
@@ -262,6 +263,7 @@ pub(crate) fn make_serve(matches: &ArgMatches<'_>, path: Option<String>) -> Opti
         protect,
         helpers,
         workers,
+        handshake,
     })
 }
 

@@ -182,10 +182,11 @@ fn shown_command(alloc: Global, command: &Command) -> Result<String, AllocError>
             protect,
             helpers,
             workers,
+            handshake,
         } => {
             let protect = protect_of(alloc, protect)?;
             let front = format!(in alloc; "serve|{path}|{}|{pim}|{kind:?}", text_of(password))?;
-            format!(in alloc; "{front}|{protect}|{helpers}|{workers}")
+            format!(in alloc; "{front}|{protect}|{helpers}|{workers}|{handshake}")
         }
         Command::Drill { n } => format!(in alloc; "drill|{n}"),
     }
@@ -355,6 +356,11 @@ fn the_first_reason_is_the_leftmost(rt: HostRuntime) -> Result<(), Fail> {
         ("info|C1|--password", Reason::NoValue("password")),
         ("info|C1|--password|--pim=1", Reason::NoValue("password")),
         ("info|C1|--backup=1", Reason::FlagValue("backup")),
+        ("serve|C1|--handshake=1", Reason::FlagValue("handshake")),
+        (
+            "serve|C1|--handshakes",
+            Reason::NoOption("--handshakes", Some("handshake")),
+        ),
         ("info|--password=x", Reason::NoPosition("PATH")),
         ("cat|C1|0|--password=x", Reason::NoPosition("COUNT")),
         ("info|C1", Reason::NoSuchOption("password")),

@@ -127,7 +127,7 @@ pub(crate) static INFO_2: [(&str, &str); 50] = [
     ("info|C1|--password=x|--kind", "usage"),
 ];
 
-pub(crate) static INFO_3: [(&str, &str); 24] = [
+pub(crate) static INFO_3: [(&str, &str); 25] = [
     ("info|C1|--password=x|--kind=both", "usage"),
     ("info|C1|--password=x|--kind=standard ", "usage"),
     ("info|C1|--password=x|--kind=any|--kind=any", "usage"),
@@ -159,6 +159,7 @@ pub(crate) static INFO_3: [(&str, &str); 24] = [
     ("info|C1|--password=x|--random=@", "usage"),
     ("info|C1|--password=x|--protect=y", "usage"),
     ("info|C1|--password=x|--helpers=1", "usage"),
+    ("info|C1|--password=x|--handshake", "usage"),
     ("info|C1|--password=x|--0=1", "usage"),
     ("info|--0=C1|--password=x", "usage"),
 ];
