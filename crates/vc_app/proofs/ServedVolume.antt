@@ -5,10 +5,11 @@
 use Rattle.std.proofs.Common.{◌≡◌, ◌≤◌, inl, inr, ℕ, suc, List, [], ◌∷◌, ◌++◌, Option, Some, None, Result, Err, refl, sym, ap, ◌∙◌, subst, arith}
 use Rattle.std.specs.Prelude.{IfSome, length, MatchOption, option_and_then, option_map}
 use Rattle.std.specs.List.{All, Contains}
-use Rattle.vc_base.specs.Faults.{Rose}
+use Rattle.vc_base.specs.Faults.{HasCause, Rose}
 use Rattle.vc_layout.specs.declared.geometry.Geometry.{Geometry}
 use Rattle.vc_layout.specs.Layout.{IsContainerLength}
 use Rattle.vc_outside.proofs.NothingMore.{nothing_more}
+use Rattle.vc_outside.specs.Told.{Grows, GrowsByFront}
 use Rattle.vc_outside.specs.declared.source.Client.{Client}
 use Rattle.vc_outside.specs.declared.store.Store.{Ghosts as StoreGhosts}
 use Rattle.vc_outside.specs.declared.source.Source.{Ghosts as SourceGhosts}
@@ -30,11 +31,11 @@ use Rattle.cmd_words.specs.declared.error.WordsError.TheVariants as words
 use Rattle.vol_server.specs.Served.{AreServed, Gained, IsBack}
 use Rattle.vc_app.specs.declared.serve.asked.Asked.{Asked}
 use Rattle.vc_app.specs.declared.status.Status.{Status}
-use Rattle.vc_app.specs.declared.status.Status.TheVariants.{NoMemory, Usage}
+use Rattle.vc_app.specs.declared.status.Status.TheVariants.{NoMemory, OutFault, Usage}
 use Rattle.vc_app.specs.Access.{opened}
 use Rattle.vc_app.specs.Promise.{Seen, seen, Unchanged}
 use Rattle.vc_app.specs.Status.{words_status}
-use Rattle.vc_app.specs.Serve.{asked, asked_by, Call, IsBase, Kept, Protects, Refuses, Unserved}
+use Rattle.vc_app.specs.Serve.{AllServed, asked, asked_by, Call, Idle, IsBase, Kept, lines, Protects, Ran, Refuses, Unserved}
 use Rattle.vc_app.specs.Laws.Opening.{IsFirst, IsOpened, Opening, RanFrom}
 use Rattle.vc_app.proofs.Serving.{whose}
 
@@ -111,6 +112,43 @@ unmoved {D} {P} d o x y out after is =
       crash = nothing_more d.tells (d.moment x) (d.left_since x) (d.may_leave x);
     })
 
+-- ---- a call that begins earlier, with the same output
+
+pub record IsSameOut (mid old : Seen) : Type 0 where
+  contents : mid.contents ≡ old.contents
+  faults : mid.out_faults ≡ old.out_faults
+
+from_earlier : {I O : Type 0} (old : Seen) (c : Call I O) → IsSameOut c.old old → Idle c → Idle (record c { old = old })
+from_earlier old c out idle = record {
+  ends = idle.ends;
+  replies = idle.replies;
+  callers = idle.callers;
+  clients = idle.clients;
+  quiet = idle.quiet ∙ out.contents;
+  out_same = idle.out_same ∙ out.faults;
+}
+
+module _ {I O : Type 0} (source : SourceGhosts I) (sink : SinkGhosts O) (sector : ℕ) (h : List Entry) (faults : ℕ) where
+  served_from_earlier : (old : Seen) (c : Call I O) → IsSameOut c.old old → AllServed source sink sector h faults c
+      → AllServed source sink sector h faults (record c { old = old })
+  served_from_earlier old c out w = record {
+    served = w.served;
+    callers = w.callers;
+    whose = w.whose;
+    statuses = w.statuses;
+    printed = subst (λ (x : Option (List ℕ)). GrowsByFront x c.new.contents (lines 0 c.ends c.replies)) out.contents w.printed;
+    all_printed = λ done. subst (λ (x : Option (List ℕ)). Grows x c.new.contents (lines 0 c.ends c.replies)) out.contents
+        (w.all_printed done);
+    clients_printed = λ of_client. elim (w.clients_printed of_client) [
+      | inl all ↦ inl (subst (λ (x : Option (List ℕ)). Grows x c.new.contents (lines 0 c.ends c.replies)) out.contents all)
+      | inr rose ↦ inr (subst (λ (n : ℕ). Rose n c.new.out_faults) out.faults rose)
+    ];
+    quiet_fault = λ e. w.quiet_fault e ∙ out.contents;
+    synced = w.synced;
+    disk_fault = w.disk_fault;
+    out_fault = subst (λ (n : ℕ). HasCause n c.new.out_faults (c.status ≡ OutFault)) out.faults w.out_fault;
+  }
+
 -- ---- what a command line asks
 
 asked_is : (arguments : List Text) (n : ℕ) (l : Line) (r : Option Asked) → line arguments ≡ Some l → r ≡ asked_by n l
@@ -125,12 +163,22 @@ asked_none arguments n is = ap (option_and_then (asked_by n)) is
 module _ {S C I O : Type 0} (store : StoreGhosts S) (cipher : CipherGhosts C) (source : SourceGhosts I) (sink : SinkGhosts O) where
   -- ---- an opened volume
 
-  pub opened_ran : (o : Opened) (range : Option (ℕ × ℕ)) (faults : ℕ) (old : Seen) (pass : Option (View (State S C) Entry))
+  pub opened_ran : (o : Opened) (range : Option (ℕ × ℕ)) (faults : ℕ) (pass : Option (View (State S C) Entry))
       (u : View (State S C) Entry) (base : State S C) (c : Call I O) → MatchOption pass ⊥ (λ v. RanFrom store cipher source sink u v c)
-      → u.base ≡ Some base → IsOpened store cipher source sink o range old base → Opening store cipher source sink o range faults old pass c
-  opened_ran o range faults old None u base c ran is opened = absurd ran
-  opened_ran o range faults old (Some v) u base c ran is opened =
+      → u.base ≡ Some base → IsOpened store cipher source sink o range c.old base → Opening store cipher source sink o range faults pass c
+  opened_ran o range faults None u base c ran is opened = absurd ran
+  opened_ran o range faults (Some v) u base c ran is opened =
       record { base = base; is = ran.same ∙ is; opened = opened; ran = ran.ran }
+
+  ran_from_earlier : (old : Seen) (c : Call I O) (v : View (State S C) Entry) → IsSameOut c.old old → Ran store cipher source sink v c
+      → Ran store cipher source sink v (record c { old = old })
+  ran_from_earlier old c v out ran = record {
+    history = ran.history;
+    outcome = elim ran.outcome [
+      | inl w ↦ inl (served_from_earlier source sink ran.history.state.base.geometry.sector v.seen (store.faults ran.history.left) old c out w)
+      | inr none ↦ inr (record { idle = from_earlier old c out none.idle; nothing = none.nothing; no_memory = none.no_memory })
+    ];
+  }
 
   -- ---- what is asked
 
@@ -152,62 +200,67 @@ module _ {S C I O : Type 0} (store : StoreGhosts S) (cipher : CipherGhosts C) (s
     pending = is.pending;
   }
 
-  pub asked_kept : (a : Asked) (o : Opened) (range : Option (ℕ × ℕ)) (faults : ℕ) (old mid : Seen) (pass : Option (View (State S C) Entry))
-      (c : Call I O) → Opening store cipher source sink o range faults mid pass c → mid.image ≡ old.image → mid.size ≡ old.size
-      → old.disk_faults ≤ mid.disk_faults → faults ≡ old.disk_faults → IsContainerLength old.size
+  -- the headers are opened first: the output is still as it was, and the container as it was but for its count of faults
+  pub asked_kept : (a : Asked) (o : Opened) (range : Option (ℕ × ℕ)) (faults : ℕ) (old : Seen) (pass : Option (View (State S C) Entry))
+      (c : Call I O) → Opening store cipher source sink o range faults pass c → IsSameOut c.old old → c.old.image ≡ old.image
+      → c.old.size ≡ old.size → old.disk_faults ≤ c.old.disk_faults → faults ≡ old.disk_faults → IsContainerLength old.size
       → IfSome old.image (λ b. opened a.access b ≡ Some o) → Protects a.protect old.image range
-      → (Unchanged mid c.new → Unchanged old c.new) → Kept store cipher source sink (Some a) old pass c
-  asked_kept a o range faults old mid None c n image size later at_start in_range opens protects still = (
-    record { idle = n.idle; unchanged = still n.unchanged; later = omega (arith, later, n.later) },
+      → (Unchanged c.old c.new → Unchanged old c.new) → Kept store cipher source sink (Some a) pass (record c { old = old })
+  asked_kept a o range faults old None c n out image size later at_start in_range opens protects still = (
+    record {
+      idle = from_earlier old c out n.unserved.idle;
+      unchanged = still n.unserved.unchanged;
+      later = omega (arith, later, n.unserved.later);
+    },
     elim n.cause [
       | inl (fault, rose) ↦ subst (Refuses a old.image old.size old.disk_faults c.new.disk_faults) (sym fault)
           (in_range, subst (λ (k : ℕ). Rose k c.new.disk_faults) at_start rose)
       | inr (memory, same) ↦ subst (Refuses a old.image old.size old.disk_faults c.new.disk_faults) (sym memory) (same ∙ at_start)
     ],
   )
-  asked_kept a o range faults old mid (Some v) c w image size later at_start in_range opens protects still =
+  asked_kept a o range faults old (Some v) c w out image size later at_start in_range opens protects still =
       let state = w.ran.history.state in
       let same : w.base ≡ state.base = some_is (sym w.is ∙ state.is) in
       record {
-        ran = w.ran;
+        ran = ran_from_earlier old c v out w.ran;
         base = subst (IsBase store cipher a old) same
-            (base_of a o range old mid w.base image size later in_range opens protects w.opened);
+            (base_of a o range old c.old w.base image size later in_range opens protects w.opened);
       }
     where
       some_is : {x y : State S C} → Some x ≡ Some y → x ≡ y
       some_is e = cc
 
-  pub refused_kept : (a : Asked) (old : Seen) (pass : Option (View (State S C) Entry)) (c : Call I O) (s : Status) → pass ≡ None
-      → Unserved old c → c.status ≡ s → Refuses a old.image old.size old.disk_faults c.new.disk_faults s
-      → Kept store cipher source sink (Some a) old pass c
-  refused_kept a old pass c s is unserved status cause =
-      subst (λ (x : Option (View (State S C) Entry)). Kept store cipher source sink (Some a) old x c) (sym is)
-      (unserved, subst (Refuses a old.image old.size old.disk_faults c.new.disk_faults) (sym status) cause)
+  pub refused_kept : (a : Asked) (pass : Option (View (State S C) Entry)) (c : Call I O) (s : Status) → pass ≡ None
+      → Unserved c → c.status ≡ s → Refuses a c.old.image c.old.size c.old.disk_faults c.new.disk_faults s
+      → Kept store cipher source sink (Some a) pass c
+  refused_kept a pass c s is unserved status cause =
+      subst (λ (x : Option (View (State S C) Entry)). Kept store cipher source sink (Some a) x c) (sym is)
+      (unserved, subst (Refuses a c.old.image c.old.size c.old.disk_faults c.new.disk_faults) (sym status) cause)
 
   -- ---- the arguments
 
-  pub usage_kept : (asked : Option Asked) (old : Seen) (pass : Option (View (State S C) Entry)) (c : Call I O) → asked ≡ None → pass ≡ None
-      → Unserved old c → c.status ≡ Usage → Kept store cipher source sink asked old pass c
-  usage_kept asked old pass c none is unserved status =
-      subst (λ (x : Option Asked). Kept store cipher source sink x old pass c) (sym none) (is, unserved, inl status)
+  pub usage_kept : (asked : Option Asked) (pass : Option (View (State S C) Entry)) (c : Call I O) → asked ≡ None → pass ≡ None
+      → Unserved c → c.status ≡ Usage → Kept store cipher source sink asked pass c
+  usage_kept asked pass c none is unserved status =
+      subst (λ (x : Option Asked). Kept store cipher source sink x pass c) (sym none) (is, unserved, inl status)
 
-  pub no_memory_kept : (asked : Option Asked) (old : Seen) (pass : Option (View (State S C) Entry)) (c : Call I O) → pass ≡ None
-      → Unserved old c → c.new.disk_faults ≡ old.disk_faults → c.status ≡ NoMemory → Kept store cipher source sink asked old pass c
-  no_memory_kept None old pass c is unserved same status = (is, unserved, inr status)
-  no_memory_kept (Some a) old pass c is unserved same status = refused_kept a old pass c NoMemory is unserved status same
+  pub no_memory_kept : (asked : Option Asked) (pass : Option (View (State S C) Entry)) (c : Call I O) → pass ≡ None
+      → Unserved c → c.new.disk_faults ≡ c.old.disk_faults → c.status ≡ NoMemory → Kept store cipher source sink asked pass c
+  no_memory_kept None pass c is unserved same status = (is, unserved, inr status)
+  no_memory_kept (Some a) pass c is unserved same status = refused_kept a pass c NoMemory is unserved status same
 
   -- the arguments weren't read
-  pub unread_kept : (arguments : List Text) (n : ℕ) (r : Result Command WordsError) (e : WordsError) (old : Seen)
+  pub unread_kept : (arguments : List Text) (n : ℕ) (r : Result Command WordsError) (e : WordsError)
       (pass : Option (View (State S C) Entry)) (c : Call I O) → r ≡ Err e → (r ≡ Err words.Usage → line arguments ≡ None) → pass ≡ None
-      → Unserved old c → c.new.disk_faults ≡ old.disk_faults → c.status ≡ words_status e
-      → Kept store cipher source sink (asked arguments n) old pass c
-  unread_kept arguments n r words.Usage old pass c error none is unserved same status =
-      usage_kept (asked arguments n) old pass c (asked_none arguments n (none error)) is unserved status
-  unread_kept arguments n r words.NoMemory old pass c error none is unserved same status =
-      no_memory_kept (asked arguments n) old pass c is unserved same status
+      → Unserved c → c.new.disk_faults ≡ c.old.disk_faults → c.status ≡ words_status e
+      → Kept store cipher source sink (asked arguments n) pass c
+  unread_kept arguments n r words.Usage pass c error none is unserved same status =
+      usage_kept (asked arguments n) pass c (asked_none arguments n (none error)) is unserved status
+  unread_kept arguments n r words.NoMemory pass c error none is unserved same status =
+      no_memory_kept (asked arguments n) pass c is unserved same status
 
-  pub line_kept : (arguments : List Text) (n : ℕ) (l : Line) (r : Option Asked) (old : Seen) (pass : Option (View (State S C) Entry))
-      (c : Call I O) → line arguments ≡ Some l → r ≡ asked_by n l → Kept store cipher source sink r old pass c
-      → Kept store cipher source sink (asked arguments n) old pass c
-  line_kept arguments n l r old pass c is made kept =
-      subst (λ (x : Option Asked). Kept store cipher source sink x old pass c) (sym (asked_is arguments n l r is made)) kept
+  pub line_kept : (arguments : List Text) (n : ℕ) (l : Line) (r : Option Asked) (pass : Option (View (State S C) Entry))
+      (c : Call I O) → line arguments ≡ Some l → r ≡ asked_by n l → Kept store cipher source sink r pass c
+      → Kept store cipher source sink (asked arguments n) pass c
+  line_kept arguments n l r pass c is made kept =
+      subst (λ (x : Option Asked). Kept store cipher source sink x pass c) (sym (asked_is arguments n l r is made)) kept

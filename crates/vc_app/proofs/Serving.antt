@@ -167,31 +167,31 @@ opens_by a image b header range known own hidden = (
     by_protect (Some p) h = ap (λ (x : Option Opened). is_some x) h.1
 
 module _ {S C I O : Type 0} (store : StoreGhosts S) (cipher : CipherGhosts C) (source : SourceGhosts I) (sink : SinkGhosts O) where
-  kept_of : (asked : Option Asked) (a : Asked) (old : Seen) (pass : Option (View (State S C) Entry)) (c : Call I O) → asked ≡ Some a
-      → Kept store cipher source sink asked old pass c → Kept store cipher source sink (Some a) old pass c
-  kept_of asked a old pass c is kept = subst (λ (x : Option Asked). Kept store cipher source sink x old pass c) is kept
+  kept_of : (asked : Option Asked) (a : Asked) (pass : Option (View (State S C) Entry)) (c : Call I O) → asked ≡ Some a
+      → Kept store cipher source sink asked pass c → Kept store cipher source sink (Some a) pass c
+  kept_of asked a pass c is kept = subst (λ (x : Option Asked). Kept store cipher source sink x pass c) is kept
 
-  pub opening : (asked : Option Asked) (old : Seen) (pass : Option (View (State S C) Entry)) (c : Call I O)
-      → Kept store cipher source sink asked old pass c → IsOpening asked old pass c
-  opening asked old pass c kept a b is known quiet memory = by_pass pass (kept_of asked a old pass c is kept)
+  pub opening : (asked : Option Asked) (pass : Option (View (State S C) Entry)) (c : Call I O)
+      → Kept store cipher source sink asked pass c → IsOpening asked pass c
+  opening asked pass c kept a b is known quiet memory = by_pass pass (kept_of asked a pass c is kept)
     where
-      by_pass : (pass : Option (View (State S C) Entry)) → Kept store cipher source sink (Some a) old pass c
-          → IsSome pass ↔ IsContainerLength old.size × Opens a b
+      by_pass : (pass : Option (View (State S C) Entry)) → Kept store cipher source sink (Some a) pass c
+          → IsSome pass ↔ IsContainerLength c.old.size × Opens a b
       by_pass None k = (
         λ e. cc e,
-        λ h. absurd (not_refused a b old.size old.disk_faults c.new.disk_faults c.status h.0 h.1 quiet memory
-            (subst (λ (x : Option (List ℕ)). Refuses a x old.size old.disk_faults c.new.disk_faults c.status) known k.1)),
+        λ h. absurd (not_refused a b c.old.size c.old.disk_faults c.new.disk_faults c.status h.0 h.1 quiet memory
+            (subst (λ (x : Option (List ℕ)). Refuses a x c.old.size c.old.disk_faults c.new.disk_faults c.status) known k.1)),
       )
-      by_pass (Some v) k = (λ _. (k.base.in_range, opens_by a old.image b k.base.header _ known k.base.opens k.base.range), λ _. refl)
+      by_pass (Some v) k = (λ _. (k.base.in_range, opens_by a c.old.image b k.base.header _ known k.base.opens k.base.range), λ _. refl)
 
-  pub complete : (asked : Option Asked) (old : Seen) (pass : Option (View (State S C) Entry)) (c : Call I O)
-      → Kept store cipher source sink asked old pass c → IsComplete source sink asked old c
-  complete asked old pass c kept a b is known in_range opens quiet out clients whole = by_pass pass (kept_of asked a old pass c is kept)
+  pub complete : (asked : Option Asked) (pass : Option (View (State S C) Entry)) (c : Call I O)
+      → Kept store cipher source sink asked pass c → IsComplete source sink asked c
+  complete asked pass c kept a b is known in_range opens quiet out clients whole = by_pass pass (kept_of asked a pass c is kept)
     where
-      refused : (s : Status) → s ≢ NoMemory → Refuses a (Some b) old.size old.disk_faults c.new.disk_faults s → ⊥
-      refused s memory r = not_refused a b old.size old.disk_faults c.new.disk_faults s in_range opens quiet memory r
+      refused : (s : Status) → s ≢ NoMemory → Refuses a (Some b) c.old.size c.old.disk_faults c.new.disk_faults s → ⊥
+      refused s memory r = not_refused a b c.old.size c.old.disk_faults c.new.disk_faults s in_range opens quiet memory r
 
-      memory_or : (s : Status) → Refuses a (Some b) old.size old.disk_faults c.new.disk_faults s → (s ≡ Done) ⊎ (s ≡ NoMemory)
+      memory_or : (s : Status) → Refuses a (Some b) c.old.size c.old.disk_faults c.new.disk_faults s → (s ≡ Done) ⊎ (s ≡ NoMemory)
       memory_or NoMemory r = inr refl
       memory_or Done r = absurd r
       memory_or Usage r = absurd r
@@ -205,7 +205,7 @@ module _ {S C I O : Type 0} (store : StoreGhosts S) (cipher : CipherGhosts C) (s
       memory_or (ClientMagic client magic) r = absurd r
       memory_or (ClientFault client) r = absurd r
 
-      by_status : (v : View (State S C) Entry) (k : Served store cipher source sink a old v c)
+      by_status : (v : View (State S C) Entry) (k : Served store cipher source sink a v c)
           (w : AllServed source sink k.ran.history.state.base.geometry.sector v.seen (store.faults k.ran.history.left) c)
           → (c.status ≡ Done) ⊎ (c.status ≡ NoMemory)
       by_status v k w = let t = ends_well source sink k.ran.history.state.base.geometry.sector v.seen 0 c.before c.after c.ends c.replies c.callers w.served clients whole in
@@ -213,17 +213,17 @@ module _ {S C I O : Type 0} (store : StoreGhosts S) (cipher : CipherGhosts C) (s
             | inl e ↦ absurd (at_sync v k (w.disk_fault.rose e))
             | inr (inl e) ↦ inr e
             | inr (inr (inl e)) ↦ elim t [ inl d ↦ inl (e ∙ d) | inr m ↦ inr (e ∙ m) ]
-            | inr (inr (inr e)) ↦ absurd (no_rise c.out_faults c.new.out_faults out.0 out.1 (w.out_fault.rose e.1))
+            | inr (inr (inr e)) ↦ absurd (no_rise c.old.out_faults c.new.out_faults out.0 out.1 (w.out_fault.rose e.1))
           ]
         where
-          at_sync : (v : View (State S C) Entry) (k : Served store cipher source sink a old v c) → Rose (store.faults k.ran.history.left) c.new.disk_faults → ⊥
+          at_sync : (v : View (State S C) Entry) (k : Served store cipher source sink a v c) → Rose (store.faults k.ran.history.left) c.new.disk_faults → ⊥
           at_sync v k rose =
               let state = k.ran.history.state in
               let end_is : store.faults state.now.disk ≡ store.faults k.ran.history.left = ap store.faults state.disk_is in
               omega (arith, k.base.later, state.sound.later, end_is, k.ran.history.later, quiet.0, quiet.1, rose)
 
-      by_pass : (pass : Option (View (State S C) Entry)) → Kept store cipher source sink (Some a) old pass c → (c.status ≡ Done) ⊎ (c.status ≡ NoMemory)
-      by_pass None k = memory_or c.status (subst (λ (x : Option (List ℕ)). Refuses a x old.size old.disk_faults c.new.disk_faults c.status) known k.1)
+      by_pass : (pass : Option (View (State S C) Entry)) → Kept store cipher source sink (Some a) pass c → (c.status ≡ Done) ⊎ (c.status ≡ NoMemory)
+      by_pass None k = memory_or c.status (subst (λ (x : Option (List ℕ)). Refuses a x c.old.size c.old.disk_faults c.new.disk_faults c.status) known k.1)
       by_pass (Some v) k = elim k.ran.outcome [
         | inl w ↦ by_status v k w
         | inr none ↦ inr none.no_memory

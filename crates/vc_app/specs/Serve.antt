@@ -8,7 +8,8 @@
 -- IsBase ..                the opening state of the served volume
 -- ends_status i ends       the status of the least client, from i on, that didn't end Done
 -- lines i ends replies     the lines for clients from i on
--- Call                     what is seen of a call, beside the container at entry
+-- Call                     what is seen of a call, beside its pass
+-- call ..                  that of a call of these containers, clients and outputs
 -- Unserved, Served         what holds of the call if no volume was opened, and if one was
 -- Kept ..                  what holds of the call
 -- IsOpening ..             when a volume is opened
@@ -40,12 +41,13 @@ use Rattle.nbd_wire.specs.declared.end.End.TheVariants as end
 use Rattle.vol_server.specs.Served.{AreServed}
 use Rattle.cmd_words.specs.Line.{Line, Text, line, serve}
 use Rattle.vc_app.specs.declared.access.Access.{Access}
+use Rattle.vc_app.specs.declared.serve.ServeEnd.{ServeEnd}
 use Rattle.vc_app.specs.declared.serve.asked.Asked.{Asked}
 use Rattle.vc_app.specs.declared.status.Status.{Status}
 use Rattle.vc_app.specs.declared.status.Status.TheVariants.{Done, Usage, NoHeader, NoHidden, Length, DiskFault, OutFault, NoMemory, ClientCut, ClientMagic, ClientFault}
 use Rattle.vc_app.specs.Access.{opened}
 use Rattle.vc_app.specs.Cat.{keys_of}
-use Rattle.vc_app.specs.Promise.{Seen, Unchanged}
+use Rattle.vc_app.specs.Promise.{Seen, seen, Unchanged}
 
 -- ---- what is asked
 
@@ -156,11 +158,10 @@ EndsBy t s = (s ≡ DiskFault) ⊎ (s ≡ NoMemory) ⊎ (s ≡ t) ⊎ ((t ≡ Do
 
 -- ---- what is seen
 
--- what is seen of a call, beside its pass and the container at entry
+-- what is seen of a call, beside its pass
 pub record Call (I O : Type 0) : Type 1 where
   -- at entry
-  pub contents : Option (List ℕ)
-  pub out_faults : ℕ
+  pub old : Seen
   pub before : List (Client I O)
   -- at exit
   pub new : Seen
@@ -170,20 +171,32 @@ pub record Call (I O : Type 0) : Type 1 where
   pub replies : List ℕ
   pub callers : List ℕ
 
+abbrev pub call : {D I O P : Type 0} → StoreGhosts D → SinkGhosts P → D → List (Client I O) → P → ServeEnd D I O P → Call I O
+call d p disk clients out end = record {
+  old = seen d p disk out;
+  before = clients;
+  new = seen d p end.disk end.out;
+  after = end.clients.items;
+  status = end.status;
+  ends = end.ends.items;
+  replies = end.replies.items;
+  callers = end.callers.items;
+}
+
 -- nobody was served
 pub record Idle {I O : Type 0} (c : Call I O) : Type 0 where
   pub ends : c.ends ≡ []
   pub replies : c.replies ≡ []
   pub callers : c.callers ≡ []
   pub clients : c.after ≡ c.before
-  pub quiet : c.new.contents ≡ c.contents
-  pub out_same : c.new.out_faults ≡ c.out_faults
+  pub quiet : c.new.contents ≡ c.old.contents
+  pub out_same : c.new.out_faults ≡ c.old.out_faults
 
 -- no volume was opened
-pub record Unserved {I O : Type 0} (old : Seen) (c : Call I O) : Type 0 where
+pub record Unserved {I O : Type 0} (c : Call I O) : Type 0 where
   pub idle : Idle c
-  pub unchanged : Unchanged old c.new
-  pub later : old.disk_faults ≤ c.new.disk_faults
+  pub unchanged : Unchanged c.old c.new
+  pub later : c.old.disk_faults ≤ c.new.disk_faults
 
 -- no fault was counted
 abbrev pub IsQuiet : ℕ → ℕ → Type 0
@@ -197,15 +210,15 @@ module _ {I O : Type 0} (source : SourceGhosts I) (sink : SinkGhosts O) where
     pub whose : All (λ e. Contains c.callers e.caller) h
     pub statuses : EndsBy (ends_status 0 c.ends) c.status
     -- All lines were written with Done, and with the status of a client unless the output failed.
-    pub printed : GrowsByFront c.contents c.new.contents (lines 0 c.ends c.replies)
-    pub all_printed : c.status ≡ Done → Grows c.contents c.new.contents (lines 0 c.ends c.replies)
+    pub printed : GrowsByFront c.old.contents c.new.contents (lines 0 c.ends c.replies)
+    pub all_printed : c.status ≡ Done → Grows c.old.contents c.new.contents (lines 0 c.ends c.replies)
     pub clients_printed : IsOfClient c.status
-        → Grows c.contents c.new.contents (lines 0 c.ends c.replies) ⊎ Rose c.out_faults c.new.out_faults
-    pub quiet_fault : c.status ≡ DiskFault → c.new.contents ≡ c.contents
+        → Grows c.old.contents c.new.contents (lines 0 c.ends c.replies) ⊎ Rose c.old.out_faults c.new.out_faults
+    pub quiet_fault : c.status ≡ DiskFault → c.new.contents ≡ c.old.contents
     pub synced : IsAfterSync c.status → IsLasting c.new.tells c.new.image c.new.may_leave
     -- The marks of the history are of failures before the last sync, so this fault is none of them.
     pub disk_fault : HasCause faults c.new.disk_faults (c.status ≡ DiskFault)
-    pub out_fault : HasCause c.out_faults c.new.out_faults (c.status ≡ OutFault)
+    pub out_fault : HasCause c.old.out_faults c.new.out_faults (c.status ≡ OutFault)
 
   -- no fault of a client was counted
   abbrev pub AreQuiet : List (Client I O) → List (Client I O) → Type 0
@@ -222,10 +235,10 @@ module _ {I O : Type 0} (source : SourceGhosts I) (sink : SinkGhosts O) where
   AreWhole (b ∷ bs) = IsWholeInput b × AreWhole bs
 
   -- Without a fault, valid headers and whole requests give Done, or NoMemory.
-  abbrev pub IsComplete : Option Asked → Seen → Call I O → Type 0
-  IsComplete asked old c = (a : Asked) (b : List ℕ) → asked ≡ Some a → old.image ≡ Some b
-      → IsContainerLength old.size → Opens a b → IsQuiet old.disk_faults c.new.disk_faults
-      → IsQuiet c.out_faults c.new.out_faults → AreQuiet c.before c.after → AreWhole c.before
+  abbrev pub IsComplete : Option Asked → Call I O → Type 0
+  IsComplete asked c = (a : Asked) (b : List ℕ) → asked ≡ Some a → c.old.image ≡ Some b
+      → IsContainerLength c.old.size → Opens a b → IsQuiet c.old.disk_faults c.new.disk_faults
+      → IsQuiet c.old.out_faults c.new.out_faults → AreQuiet c.before c.after → AreWhole c.before
       → (c.status ≡ Done) ⊎ (c.status ≡ NoMemory)
 
 -- The volume was opened, and there was no memory to serve its clients.
@@ -265,20 +278,20 @@ module _ {S C I O : Type 0} (store : StoreGhosts S) (cipher : CipherGhosts C) (s
     pub history : IsHistory store cipher v c.new
     pub outcome : AllServed source sink history.state.base.geometry.sector v.seen (store.faults history.left) c ⊎ NoneServed v.seen c
 
-  pub record Served (a : Asked) (old : Seen) (v : View (State S C) Entry) (c : Call I O) : Type 0 where
+  pub record Served (a : Asked) (v : View (State S C) Entry) (c : Call I O) : Type 0 where
     pub ran : Ran v c
-    pub base : IsBase store cipher a old ran.history.state.base
+    pub base : IsBase store cipher a c.old ran.history.state.base
 
   -- If nothing is asked, the status is Usage, and Usage comes only then. NoMemory may come in its place.
-  abbrev pub Kept : Option Asked → Seen → Option (View (State S C) Entry) → Call I O → Type 0
-  Kept asked old pass c = MatchOption asked
-      ((pass ≡ None) × Unserved old c × ((c.status ≡ Usage) ⊎ (c.status ≡ NoMemory)))
+  abbrev pub Kept : Option Asked → Option (View (State S C) Entry) → Call I O → Type 0
+  Kept asked pass c = MatchOption asked
+      ((pass ≡ None) × Unserved c × ((c.status ≡ Usage) ⊎ (c.status ≡ NoMemory)))
       (λ a. MatchOption pass
-      (Unserved old c × Refuses a old.image old.size old.disk_faults c.new.disk_faults c.status)
-      (λ v. Served a old v c))
+      (Unserved c × Refuses a c.old.image c.old.size c.old.disk_faults c.new.disk_faults c.status)
+      (λ v. Served a v c))
 
 -- If no fault of the container is counted, a volume is opened if and only if the headers are valid, out of memory aside.
-abbrev pub IsOpening : {S C I O : Type 0} → Option Asked → Seen → Option (View (State S C) Entry) → Call I O → Type 0
-IsOpening asked old pass c = (a : Asked) (b : List ℕ) → asked ≡ Some a → old.image ≡ Some b
-    → IsQuiet old.disk_faults c.new.disk_faults → c.status ≢ NoMemory
-    → (IsSome pass ↔ IsContainerLength old.size × Opens a b)
+abbrev pub IsOpening : {S C I O : Type 0} → Option Asked → Option (View (State S C) Entry) → Call I O → Type 0
+IsOpening asked pass c = (a : Asked) (b : List ℕ) → asked ≡ Some a → c.old.image ≡ Some b
+    → IsQuiet c.old.disk_faults c.new.disk_faults → c.status ≢ NoMemory
+    → (IsSome pass ↔ IsContainerLength c.old.size × Opens a b)

@@ -12,8 +12,7 @@ ghost use Rattle.vc_layout.specs.Layout.{IsContainerLength, IsSectorSize};
 ghost use Rattle.vc_outside.specs.Crash.{IsLasting, Outcomes, Stays};
 ghost use Rattle.vc_outside.specs.Told.{Grows, GrowsByFront};
 ghost use Rattle.vc_app.specs.Laws.Opening.{IsFirst, Opening, RanFrom};
-ghost use Rattle.vc_app.specs.Promise.{seen};
-ghost use Rattle.vc_app.specs.Serve.{asked, asked_by, ends_status, EndsBy, IsAfterSync, IsComplete, IsOfClient, IsOpening, Kept, lines, most_clients};
+ghost use Rattle.vc_app.specs.Serve.{asked, asked_by, call, ends_status, EndsBy, IsAfterSync, IsComplete, IsOfClient, IsOpening, Kept, lines, most_clients};
 
 use crate::serve::asked::Asked;
 use crate::serve::ends::write_ends;
@@ -82,42 +81,13 @@ pub fn run_serve<
     gate: &G,
 ) -> ServeEnd<D, I, O, P>
     ensures kept { Kept ⟦<D as Store>⟧ ⟦<Keyed as UnitCipher>⟧ ⟦<I as Source>⟧ ⟦<O as Sink>⟧
-        (asked (map string_bytes words.now) (length clients.items)) (seen ⟦<D as Store>⟧ ⟦<P as Sink>⟧ disk out)
-        (option_map (λ p. view p.seat) result.pass) (record {
-          contents = P.contents out;
-          out_faults = P.faults out;
-          before = clients.items;
-          new = seen ⟦<D as Store>⟧ ⟦<P as Sink>⟧ result.disk result.out;
-          after = result.clients.items;
-          status = result.status;
-          ends = result.ends.items;
-          replies = result.replies.items;
-          callers = result.callers.items;
-        }) }
+        (asked (map string_bytes words.now) (length clients.items)) (option_map (λ p. view p.seat) result.pass)
+        (call ⟦<D as Store>⟧ ⟦<P as Sink>⟧ disk clients.items out result) }
     ensures opening { IsOpening (asked (map string_bytes words.now) (length clients.items))
-        (seen ⟦<D as Store>⟧ ⟦<P as Sink>⟧ disk out) (option_map (λ p. view p.seat) result.pass) (record {
-          contents = P.contents out;
-          out_faults = P.faults out;
-          before = clients.items;
-          new = seen ⟦<D as Store>⟧ ⟦<P as Sink>⟧ result.disk result.out;
-          after = result.clients.items;
-          status = result.status;
-          ends = result.ends.items;
-          replies = result.replies.items;
-          callers = result.callers.items;
-        }) }
+        (option_map (λ p. view p.seat) result.pass)
+        (call ⟦<D as Store>⟧ ⟦<P as Sink>⟧ disk clients.items out result) }
     ensures complete { IsComplete ⟦<I as Source>⟧ ⟦<O as Sink>⟧ (asked (map string_bytes words.now) (length clients.items))
-        (seen ⟦<D as Store>⟧ ⟦<P as Sink>⟧ disk out) (record {
-          contents = P.contents out;
-          out_faults = P.faults out;
-          before = clients.items;
-          new = seen ⟦<D as Store>⟧ ⟦<P as Sink>⟧ result.disk result.out;
-          after = result.clients.items;
-          status = result.status;
-          ends = result.ends.items;
-          replies = result.replies.items;
-          callers = result.callers.items;
-        }) }
+        (call ⟦<D as Store>⟧ ⟦<P as Sink>⟧ disk clients.items out result) }
 {
     carry_out(rt, alloc, words, disk, clients, out, gate)
 }
@@ -140,18 +110,8 @@ fn carry_out<
     gate: &G,
 ) -> ServeEnd<D, I, O, P>
     ensures { Kept ⟦<D as Store>⟧ ⟦<Keyed as UnitCipher>⟧ ⟦<I as Source>⟧ ⟦<O as Sink>⟧
-        (asked (map string_bytes words.now) (length clients.items)) (seen ⟦<D as Store>⟧ ⟦<P as Sink>⟧ disk out)
-        (option_map (λ p. view p.seat) result.pass) (record {
-          contents = P.contents out;
-          out_faults = P.faults out;
-          before = clients.items;
-          new = seen ⟦<D as Store>⟧ ⟦<P as Sink>⟧ result.disk result.out;
-          after = result.clients.items;
-          status = result.status;
-          ends = result.ends.items;
-          replies = result.replies.items;
-          callers = result.callers.items;
-        }) }
+        (asked (map string_bytes words.now) (length clients.items)) (option_map (λ p. view p.seat) result.pass)
+        (call ⟦<D as Store>⟧ ⟦<P as Sink>⟧ disk clients.items out result) }
 {
     match read_words(alloc, words) {
         Ok(command) => match asked_of(command, &clients) {
@@ -233,18 +193,8 @@ fn serve_asked<
     requires helpers { asked.now.helpers ≤ 8 }
     requires workers { (1 ≤ asked.now.workers) × (asked.now.workers ≤ 8) }
     ensures { Kept ⟦<D as Store>⟧ ⟦<Keyed as UnitCipher>⟧ ⟦<I as Source>⟧ ⟦<O as Sink>⟧
-        (Some asked.now) (seen ⟦<D as Store>⟧ ⟦<P as Sink>⟧ disk out)
-        (option_map (λ p. view p.seat) result.pass) (record {
-          contents = P.contents out;
-          out_faults = P.faults out;
-          before = clients.items;
-          new = seen ⟦<D as Store>⟧ ⟦<P as Sink>⟧ result.disk result.out;
-          after = result.clients.items;
-          status = result.status;
-          ends = result.ends.items;
-          replies = result.replies.items;
-          callers = result.callers.items;
-        }) }
+        (Some asked.now) (option_map (λ p. view p.seat) result.pass)
+        (call ⟦<D as Store>⟧ ⟦<P as Sink>⟧ disk clients.items out result) }
 {
     let mut disk = disk;
     let at_start = disk.faults();
@@ -292,18 +242,8 @@ fn serve_opened<
     requires in_range { IsContainerLength (D.size disk) }
     requires faults { faults ≤ D.faults disk }
     ensures { Opening ⟦<D as Store>⟧ ⟦<Keyed as UnitCipher>⟧ ⟦<I as Source>⟧ ⟦<O as Sink>⟧
-        opened.now protect faults (seen ⟦<D as Store>⟧ ⟦<P as Sink>⟧ disk out)
-        (option_map (λ p. view p.seat) result.pass) (record {
-          contents = P.contents out;
-          out_faults = P.faults out;
-          before = clients.items;
-          new = seen ⟦<D as Store>⟧ ⟦<P as Sink>⟧ result.disk result.out;
-          after = result.clients.items;
-          status = result.status;
-          ends = result.ends.items;
-          replies = result.replies.items;
-          callers = result.callers.items;
-        }) }
+        opened.now protect faults (option_map (λ p. view p.seat) result.pass)
+        (call ⟦<D as Store>⟧ ⟦<P as Sink>⟧ disk clients.items out result) }
 {
     let keyed = Keyed::new(&Keys {
         algorithm: opened.algorithm,
@@ -319,7 +259,8 @@ fn serve_opened<
     }
 }
 
-// Serves a volume whose first pass this is, and closes it.
+// Serves a volume whose first pass this is, and closes it. What is promised holds whatever the container was when the
+// call began.
 fn serve_volume<
     R: Threads + Wait + Sync,
     D: Store + Send,
@@ -344,18 +285,9 @@ fn serve_volume<
     requires open { NothingOpen (view pass.seat) }
     requires first { IsFirst (view pass.seat) }
     requires sector { IsSectorSize volume.geometry.sector }
-    ensures { MatchOption (option_map (λ p. view p.seat) result.pass) ⊥ (λ v. RanFrom
-        ⟦<D as Store>⟧ ⟦<Keyed as UnitCipher>⟧ ⟦<I as Source>⟧ ⟦<O as Sink>⟧ (view pass.seat) v (record {
-          contents = P.contents out;
-          out_faults = P.faults out;
-          before = clients.items;
-          new = seen ⟦<D as Store>⟧ ⟦<P as Sink>⟧ result.disk result.out;
-          after = result.clients.items;
-          status = result.status;
-          ends = result.ends.items;
-          replies = result.replies.items;
-          callers = result.callers.items;
-        })) }
+    ensures { (disk : D) → MatchOption (option_map (λ p. view p.seat) result.pass) ⊥ (λ v. RanFrom
+        ⟦<D as Store>⟧ ⟦<Keyed as UnitCipher>⟧ ⟦<I as Source>⟧ ⟦<O as Sink>⟧ (view pass.seat) v
+        (call ⟦<D as Store>⟧ ⟦<P as Sink>⟧ disk clients.items out result)) }
 {
     let mut pass = pass;
     let mut out = out;

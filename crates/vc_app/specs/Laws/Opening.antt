@@ -17,8 +17,8 @@ use Rattle.sector_model.specs.declared.entry.Entry.{Entry}
 use Rattle.io_core.specs.State.{State}
 use Rattle.vc_app.specs.declared.status.Status.TheVariants.{DiskFault, NoMemory}
 use Rattle.vc_app.specs.Cat.{keys_of}
-use Rattle.vc_app.specs.Promise.{Seen, Unchanged}
-use Rattle.vc_app.specs.Serve.{Call, Idle, Ran}
+use Rattle.vc_app.specs.Promise.{Seen}
+use Rattle.vc_app.specs.Serve.{Call, Ran, Unserved}
 
 pub record IsFirst {T E : Type 0} (v : View T E) : Type 0 where
   pub part : v.part ≡ 1
@@ -42,17 +42,15 @@ module _ {S C I O : Type 0} (store : StoreGhosts S) (cipher : CipherGhosts C) (s
     pub range_is : base.guard.range ≡ range
     pub pending : base.pending ≡ []
 
-  pub record NotOpened (faults : ℕ) (old : Seen) (c : Call I O) : Type 0 where
-    pub idle : Idle c
-    pub unchanged : Unchanged old c.new
-    pub later : old.disk_faults ≤ c.new.disk_faults
+  pub record NotOpened (faults : ℕ) (c : Call I O) : Type 0 where
+    pub unserved : Unserved c
     pub cause : ((c.status ≡ DiskFault) × Rose faults c.new.disk_faults) ⊎ ((c.status ≡ NoMemory) × (c.new.disk_faults ≡ faults))
 
-  pub record WasOpened (o : Opened) (range : Option (ℕ × ℕ)) (old : Seen) (v : View (State S C) Entry) (c : Call I O) : Type 0 where
+  pub record WasOpened (o : Opened) (range : Option (ℕ × ℕ)) (v : View (State S C) Entry) (c : Call I O) : Type 0 where
     pub base : State S C
     pub is : v.base ≡ Some base
-    pub opened : IsOpened o range old base
+    pub opened : IsOpened o range c.old base
     pub ran : Ran store cipher source sink v c
 
-  abbrev pub Opening : Opened → Option (ℕ × ℕ) → ℕ → Seen → Option (View (State S C) Entry) → Call I O → Type 0
-  Opening o range faults old pass c = MatchOption pass (NotOpened faults old c) (λ v. WasOpened o range old v c)
+  abbrev pub Opening : Opened → Option (ℕ × ℕ) → ℕ → Option (View (State S C) Entry) → Call I O → Type 0
+  Opening o range faults pass c = MatchOption pass (NotOpened faults c) (λ v. WasOpened o range v c)

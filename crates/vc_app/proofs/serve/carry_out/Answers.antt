@@ -1,18 +1,17 @@
 use Rattle.std.proofs.Common.{Some, None, Err, inl, refl, ap, ◌∙◌, arith}
 use Rattle.cmd_words.specs.Meaning.{meaning}
-use Rattle.vc_app.specs.Promise.{seen}
 use Rattle.vc_app.proofs.ServedVolume.{line_kept, no_value, unmoved, unread_kept}
 use Rattle.vc_app.proofs.serve.carry_out.Goals as goal
 
 pub returns-in-Some : goal.returns-in-Some
 returns-in-Some g c =
     line_kept g.D.Store _ g.I.Source g.O.Sink _ _ (meaning c.in-Ok.command) (Some c.in-Some.asked)
-    (seen g.D.Store g.P.Sink c.args.disk c.args.out) _ _ c.in-Ok.ensures.command c.in-Some.ensures.asked c.serve_asked.ensures
+    _ _ c.in-Ok.ensures.command c.in-Some.ensures.asked c.serve_asked.ensures
 
 pub returns-in-None : goal.returns-in-None
 returns-in-None g c = let e = c.idle_end.ensures in
     line_kept g.D.Store _ g.I.Source g.O.Sink _ _ (meaning c.in-Ok.command) None
-    (seen g.D.Store g.P.Sink c.args.disk c.args.out) _ _ c.in-Ok.ensures.command c.in-None.ensures.asked (
+    _ _ c.in-Ok.ensures.command c.in-None.ensures.asked (
       no_value _ _ e.pass,
       record {
         idle = record {
@@ -32,7 +31,7 @@ returns-in-None g c = let e = c.idle_end.ensures in
 pub returns-in-Err : goal.returns-in-Err
 returns-in-Err g c = let e = c.idle_end-in-Err.ensures in
     unread_kept g.D.Store _ g.I.Source g.O.Sink _ _ (Err c.in-Err.error) c.in-Err.error
-    (seen g.D.Store g.P.Sink c.args.disk c.args.out) _ _ refl c.in-Err.ensures.usage (no_value _ _ e.pass)
+    _ _ refl c.in-Err.ensures.usage (no_value _ _ e.pass)
     (record {
       idle = record {
         ends = e.ends;

@@ -1,13 +1,12 @@
 use Rattle.std.proofs.Common.{refl}
 use Rattle.hist_lock.specs.Known.{view}
-use Rattle.vc_app.specs.Promise.{seen}
 use Rattle.vc_app.proofs.ServedVolume.{first_base, opened_ran}
 use Rattle.vc_app.proofs.serve.serve_opened.Goals as goal
 
 pub returns-in-Ok : goal.returns-in-Ok
 returns-in-Ok g c =
-    opened_ran g.D.Store _ g.I.Source g.O.Sink c.args.opened.now c.args.protect c.args.faults (seen g.D.Store g.P.Sink c.args.disk c.args.out)
-    _ (view c.in-Ok.pass.seat) _ _ c.serve_volume.ensures (first_base (view c.in-Ok.pass.seat) _ c.in-Ok.ensures.first) (record {
+    opened_ran g.D.Store _ g.I.Source g.O.Sink c.args.opened.now c.args.protect c.args.faults
+    _ (view c.in-Ok.pass.seat) _ _ (c.serve_volume.ensures c.args.disk) (first_base (view c.in-Ok.pass.seat) _ c.in-Ok.ensures.first) (record {
       image = refl;
       size = refl;
       faults = refl;

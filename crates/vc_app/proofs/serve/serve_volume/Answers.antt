@@ -18,7 +18,7 @@ end_call-status-requires-clause-as_long g c = same_length _ _ _ _ c.deref-in-Ok.
     (as_many_counts g.I.Source g.O.Sink _ _ _ _ _ _ _ c.in-Ok.ensures.served)
 
 pub returns-in-Ok : goal.returns-in-Ok
-returns-in-Ok g c =
+returns-in-Ok g c disk =
     let e = c.in-Ok.ensures in
     let k = c.close_whole-disk.ensures in
     let s = c.end_call-status.ensures in
