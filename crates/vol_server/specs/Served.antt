@@ -3,35 +3,77 @@
 -- IsServed .. before after how n caller   one client: its session, whose entries are under this number, and what failed
 -- AreServed ..                            all clients, in order: as clients before and after, ends, counts of replies and
 --                                         numbers; lists of different lengths belong to no clients
+-- size_of g                               how many bytes the volume has
+-- IsSentAway .. how n caller              a client without a session, which is as its handshake left it
+-- Follows .. hand how n caller            what followed a handshake that ended so: a session after Go, and none otherwise
+-- IsGreeted .. before after hand how n caller   one client: its handshake, what followed it, and what failed in either
+-- AreGreeted ..                           all clients, in order, as AreServed, with the ends of their handshakes
 -- AreNew given callers                    no two of the numbers are the same, and each is at least `given`
 -- SameFraction v w                        they have the same share, also if its two numbers differ
 -- IsBack v w                              the pass v, once all that was split from it is joined again
 -- Gained callers v w                      w lists more passes that ended in it: those of the callers, and none else with entries
-use Rattle.std.specs.Prelude.{◌≡◌, ◌≢◌, ◌≤◌, ℕ, ◌*◌, ◌^◌, List, [], ◌∷◌, ◌++◌, ◌⊎◌, ⊤, All, AllPairs, Contains}
+use Rattle.std.specs.Prelude.{◌≡◌, ◌≢◌, ◌≤◌, ℕ, ◌*◌, ◌^◌, List, [], ◌∷◌, ◌++◌, ◌⊎◌, ⊤, Option, All, AllPairs, Contains}
 use Rattle.vc_base.specs.Faults.{HasCause}
 use Rattle.vc_outside.specs.declared.source.Client.{Client}
 use Rattle.vc_outside.specs.declared.source.Source.{Ghosts as SourceGhosts}
 use Rattle.vc_outside.specs.declared.sink.Sink.{Ghosts as SinkGhosts}
+use Rattle.vc_layout.specs.declared.geometry.Geometry.{Geometry}
 use Rattle.hist_lock.specs.declared.view.View.{View}
 use Rattle.hist_lock.specs.History.{StartsWith, entries}
 use Rattle.sector_model.specs.declared.entry.Entry.{Entry}
 use Rattle.io_queue.specs.Pass.{caller_of}
 use Rattle.nbd_wire.specs.declared.end.End.{End}
-use Rattle.nbd_wire.specs.declared.end.End.TheVariants.{ReadFault, WriteFault}
+use Rattle.nbd_wire.specs.declared.end.End.TheVariants as end
+use Rattle.nbd_hand.specs.Hand.{Shakes}
+use Rattle.nbd_hand.specs.declared.end.HandEnd.{HandEnd}
+use Rattle.nbd_hand.specs.declared.end.HandEnd.TheVariants.{Go, ReadFault, WriteFault}
 use Rattle.nbd_session.specs.Session.{events_of, Serves}
 
 module _ {I O : Type 0} (source : SourceGhosts I) (sink : SinkGhosts O) (sector : ℕ) (h : List Entry) where
   pub record IsServed (before after : Client I O) (how : End) (n caller : ℕ) : Type 0 where
     pub served : Serves sector (source.left before.source) (source.left after.source)
         (sink.contents before.sink) (sink.contents after.sink) (events_of (entries caller_of caller h)) n how
-    pub read_fault : HasCause (source.faults before.source) (source.faults after.source) (how ≡ ReadFault)
-    pub write_fault : HasCause (sink.faults before.sink) (sink.faults after.sink) (how ≡ WriteFault)
+    pub read_fault : HasCause (source.faults before.source) (source.faults after.source) (how ≡ end.ReadFault)
+    pub write_fault : HasCause (sink.faults before.sink) (sink.faults after.sink) (how ≡ end.WriteFault)
 
   abbrev pub AreServed : List (Client I O) → List (Client I O) → List End → List ℕ → List ℕ → Type 0
   AreServed [] [] [] [] [] = ⊤
   AreServed (before ∷ bs) (after ∷ xs) (how ∷ hs) (n ∷ ns) (caller ∷ cs) =
       IsServed before after how n caller × AreServed bs xs hs ns cs
   AreServed bs xs hs ns cs = ⊥
+
+abbrev pub size_of : Geometry → ℕ
+size_of g = g.sectors * g.sector
+
+module _ (g : Geometry) (h : List Entry) where
+  pub record IsSentAway (left later held now : Option (List ℕ)) (how : End) (n caller : ℕ) : Type 0 where
+    pub source : later ≡ left
+    pub sink : now ≡ held
+    pub ended : how ≡ end.Done
+    pub replies : n ≡ 0
+    pub no_entry : entries caller_of caller h ≡ []
+
+  abbrev pub Follows : Option (List ℕ) → Option (List ℕ) → Option (List ℕ) → Option (List ℕ) → HandEnd → End → ℕ → ℕ → Type 0
+  Follows left later held now Go how n caller = Serves g.sector left later held now (events_of (entries caller_of caller h)) n how
+  Follows left later held now hand how n caller = IsSentAway left later held now how n caller
+
+module _ {I O : Type 0} (source : SourceGhosts I) (sink : SinkGhosts O) (g : Geometry) (h : List Entry) where
+  pub record IsGreeted (before after : Client I O) (hand : HandEnd) (how : End) (n caller : ℕ) : Type 0 where
+    -- what the handshake left of the source, and what the sink held then
+    pub rest : Option (List ℕ)
+    pub held : Option (List ℕ)
+    pub shook : Shakes (size_of g) (source.left before.source) rest (sink.contents before.sink) held hand
+    pub followed : Follows g h rest (source.left after.source) held (sink.contents after.sink) hand how n caller
+    pub read_fault : HasCause (source.faults before.source) (source.faults after.source)
+        ((hand ≡ ReadFault) ⊎ (how ≡ end.ReadFault))
+    pub write_fault : HasCause (sink.faults before.sink) (sink.faults after.sink)
+        ((hand ≡ WriteFault) ⊎ (how ≡ end.WriteFault))
+
+  abbrev pub AreGreeted : List (Client I O) → List (Client I O) → List HandEnd → List End → List ℕ → List ℕ → Type 0
+  AreGreeted [] [] [] [] [] [] = ⊤
+  AreGreeted (before ∷ bs) (after ∷ xs) (hand ∷ gs) (how ∷ hs) (n ∷ ns) (caller ∷ cs) =
+      IsGreeted before after hand how n caller × AreGreeted bs xs gs hs ns cs
+  AreGreeted bs xs gs hs ns cs = ⊥
 
 pub record AreNew (given : ℕ) (callers : List ℕ) : Type 0 where
   pub apart : AllPairs (λ m n. m ≢ n) callers

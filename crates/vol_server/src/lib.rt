@@ -24,4 +24,4 @@ mod tests;
 
 pub use io_core::NoMemory;
 pub use served::Served;
-pub use server::serve;
+pub use server::{serve, serve_hand};

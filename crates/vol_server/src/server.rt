@@ -4,7 +4,7 @@ ghost use Rattle.hist_lock.specs.History.{SameUnder};
 ghost use Rattle.hist_lock.specs.Known.{numbers_of, view};
 ghost use Rattle.io_queue.specs.Pass.{caller_of, IsPass, NothingOpen};
 ghost use Rattle.vc_layout.specs.Layout.{IsSectorSize};
-ghost use Rattle.vol_server.specs.Served.{AreNew, AreServed, Gained, IsBack};
+ghost use Rattle.vol_server.specs.Served.{AreGreeted, AreNew, AreServed, Gained, IsBack};
 
 use crate::join::join_all;
 use crate::run::run_all;
@@ -15,6 +15,7 @@ use cipher_base::UnitCipher;
 use hist_lock::Pass;
 use io_core::{Core, NoMemory};
 use io_queue::Volume;
+use nbd_hand::HandEnd;
 use std::alloc::Global;
 use std::sync::Wait;
 use std::thread::Threads;
@@ -71,4 +72,49 @@ pub fn serve<
     run_all(rt, alloc, volume, gate, tasks.as_mut_slice());
     join_all(volume, pass, tasks, &mut served);
     Ok(served)
+}
+
+/// Serves clients as `serve` does, each with a handshake before its session, and returns besides how the handshakes
+/// ended, item i for client i. The export is the volume, with its size in bytes. A client whose handshake ended
+/// otherwise than `Go` has no session: its end is `Done`, with no reply and no entry.
+///
+/// It isn't written yet: it always hands the clients back as if it were out of memory.
+pub fn serve_hand<
+    R: Threads + Wait + Sync,
+    S: Store + Send,
+    C: UnitCipher + Send + Sync,
+    I: Source + Send,
+    O: Sink + Send,
+    G: Gate,
+>(
+    rt: &R,
+    alloc: Global,
+    volume: &Volume<S, C>,
+    pass: &mut Pass<Core<S, C>>,
+    clients: Vec<Client<I, O>>,
+    helpers: u32,
+    gate: &G,
+) -> Result<(Served<I, O>, Vec<HandEnd>), (NoMemory, Vec<Client<I, O>>)>
+    requires pass { IsPass volume.now.lock.table.shared.table_id volume.now.geometry volume.now.cipher pass.old.seat }
+    requires open { NothingOpen (view pass.old.seat) }
+    requires sector { IsSectorSize volume.now.geometry.sector }
+    requires some { 1 ≤ length clients.items }
+    requires few { length clients.items ≤ 16 }
+    requires helpers { helpers ≤ 8 }
+    ensures pass { IsPass volume.now.lock.table.shared.table_id volume.now.geometry volume.now.cipher pass.new.seat }
+    ensures open { NothingOpen (view pass.new.seat) }
+    ensures same { IsBack (view pass.old.seat) (view pass.new.seat) }
+    ensures settled { SameUnder caller_of (numbers_of (view pass.old.seat)) (view pass.new.seat).seen (view pass.old.seat).seen }
+    ensures served { IfOk result (λ r. AreGreeted ⟦<I as Source>⟧ ⟦<O as Sink>⟧ volume.now.geometry
+        (view pass.new.seat).seen clients.items r.0.clients.items r.1.items r.0.ends.items r.0.replies.items r.0.callers.items) }
+    ensures callers { IfOk result (λ r. AreNew (view pass.old.seat).given r.0.callers.items) }
+    ensures under { IfOk result (λ r. Gained r.0.callers.items (view pass.old.seat) (view pass.new.seat)) }
+    ensures err { IfErr result (λ e. (e.1 ≡ clients) × (view pass.new.seat ≡ view pass.old.seat)) }
+{
+    let _ = rt;
+    let _ = alloc;
+    let _ = volume;
+    let _ = helpers;
+    let _ = gate;
+    Err((NoMemory, clients))
 }
