@@ -4,8 +4,8 @@
 -- AreServed ..                            all clients, in order: as clients before and after, ends, counts of replies and
 --                                         numbers; lists of different lengths belong to no clients
 -- size_of g                               how many bytes the volume has
--- IsSentAway .. how n caller              a client without a session, which is as its handshake left it
--- Follows .. hand how n caller            what followed a handshake that ended so: a session after Go, and none otherwise
+-- IsSentAway .. es n how                  a client without a session: it is as its handshake left it, and has no entry
+-- Follows hand .. es n how                what followed a handshake that ended so: a session after Go, and none otherwise
 -- IsGreeted .. before after hand how n caller   one client: its handshake, what followed it, and what failed in either
 -- AreGreeted ..                           all clients, in order, as AreServed, with the ends of their handshakes
 -- AreNew given callers                    no two of the numbers are the same, and each is at least `given`
@@ -45,17 +45,16 @@ module _ {I O : Type 0} (source : SourceGhosts I) (sink : SinkGhosts O) (sector 
 abbrev pub size_of : Geometry → ℕ
 size_of g = g.sectors * g.sector
 
-module _ (g : Geometry) (h : List Entry) where
-  pub record IsSentAway (left later held now : Option (List ℕ)) (how : End) (n caller : ℕ) : Type 0 where
-    pub source : later ≡ left
-    pub sink : now ≡ held
-    pub ended : how ≡ end.Done
-    pub replies : n ≡ 0
-    pub no_entry : entries caller_of caller h ≡ []
+pub record IsSentAway (left later held now : Option (List ℕ)) (es : List Entry) (n : ℕ) (how : End) : Type 0 where
+  pub source : later ≡ left
+  pub sink : now ≡ held
+  pub no_entry : es ≡ []
+  pub no_reply : n ≡ 0
+  pub ended : how ≡ end.Done
 
-  abbrev pub Follows : Option (List ℕ) → Option (List ℕ) → Option (List ℕ) → Option (List ℕ) → HandEnd → End → ℕ → ℕ → Type 0
-  Follows left later held now Go how n caller = Serves g.sector left later held now (events_of (entries caller_of caller h)) n how
-  Follows left later held now hand how n caller = IsSentAway left later held now how n caller
+abbrev pub Follows : HandEnd → ℕ → Option (List ℕ) → Option (List ℕ) → Option (List ℕ) → Option (List ℕ) → List Entry → ℕ → End → Type 0
+Follows Go sector left later held now es n how = Serves sector left later held now (events_of es) n how
+Follows hand sector left later held now es n how = IsSentAway left later held now es n how
 
 module _ {I O : Type 0} (source : SourceGhosts I) (sink : SinkGhosts O) (g : Geometry) (h : List Entry) where
   pub record IsGreeted (before after : Client I O) (hand : HandEnd) (how : End) (n caller : ℕ) : Type 0 where
@@ -63,7 +62,8 @@ module _ {I O : Type 0} (source : SourceGhosts I) (sink : SinkGhosts O) (g : Geo
     pub rest : Option (List ℕ)
     pub held : Option (List ℕ)
     pub shook : Shakes (size_of g) (source.left before.source) rest (sink.contents before.sink) held hand
-    pub followed : Follows g h rest (source.left after.source) held (sink.contents after.sink) hand how n caller
+    pub followed : Follows hand g.sector rest (source.left after.source) held (sink.contents after.sink)
+        (entries caller_of caller h) n how
     pub read_fault : HasCause (source.faults before.source) (source.faults after.source)
         ((hand ≡ ReadFault) ⊎ (how ≡ end.ReadFault))
     pub write_fault : HasCause (sink.faults before.sink) (sink.faults after.sink)
