@@ -4,15 +4,17 @@
 -- AreServed ..                            all clients, in order: as clients before and after, ends, counts of replies and
 --                                         numbers; lists of different lengths belong to no clients
 -- size_of g                               how many bytes the volume has
+-- Opens export .. hand                    the handshake for an export of so many bytes; without an export there is none,
+--                                         nothing is taken or sent, and the session follows as after Go
 -- IsSentAway .. es n how                  a client without a session: it is as its handshake left it, and has no entry
 -- Follows hand .. es n how                what followed a handshake that ended so: a session after Go, and none otherwise
--- IsGreeted .. before after hand how n caller   one client: its handshake, what followed it, and what failed in either
+-- IsGreeted .. before after hand how n caller   one client: its handshake, what followed it, and what failed in both together
 -- AreGreeted ..                           all clients, in order, as AreServed, with the ends of their handshakes
 -- AreNew given callers                    no two of the numbers are the same, and each is at least `given`
 -- SameFraction v w                        they have the same share, also if its two numbers differ
 -- IsBack v w                              the pass v, once all that was split from it is joined again
 -- Gained callers v w                      w lists more passes that ended in it: those of the callers, and none else with entries
-use Rattle.std.specs.Prelude.{◌≡◌, ◌≢◌, ◌≤◌, ℕ, ◌*◌, ◌^◌, List, [], ◌∷◌, ◌++◌, ◌⊎◌, ⊤, Option, All, AllPairs, Contains}
+use Rattle.std.specs.Prelude.{◌≡◌, ◌≢◌, ◌≤◌, ℕ, ◌*◌, ◌^◌, List, [], ◌∷◌, ◌++◌, ◌⊎◌, ⊤, Option, Some, None, All, AllPairs, Contains}
 use Rattle.vc_base.specs.Faults.{HasCause}
 use Rattle.vc_outside.specs.declared.source.Client.{Client}
 use Rattle.vc_outside.specs.declared.source.Source.{Ghosts as SourceGhosts}
@@ -45,6 +47,10 @@ module _ {I O : Type 0} (source : SourceGhosts I) (sink : SinkGhosts O) (sector 
 abbrev pub size_of : Geometry → ℕ
 size_of g = g.sectors * g.sector
 
+abbrev pub Opens : Option ℕ → Option (List ℕ) → Option (List ℕ) → Option (List ℕ) → Option (List ℕ) → HandEnd → Type 0
+Opens None left later held now hand = (later ≡ left) × (now ≡ held) × (hand ≡ Go)
+Opens (Some size) left later held now hand = Shakes size left later held now hand
+
 pub record IsSentAway (left later held now : Option (List ℕ)) (es : List Entry) (n : ℕ) (how : End) : Type 0 where
   pub source : later ≡ left
   pub sink : now ≡ held
@@ -56,13 +62,13 @@ abbrev pub Follows : HandEnd → ℕ → Option (List ℕ) → Option (List ℕ)
 Follows Go sector left later held now es n how = Serves sector left later held now (events_of es) n how
 Follows hand sector left later held now es n how = IsSentAway left later held now es n how
 
-module _ {I O : Type 0} (source : SourceGhosts I) (sink : SinkGhosts O) (g : Geometry) (h : List Entry) where
+module _ {I O : Type 0} (source : SourceGhosts I) (sink : SinkGhosts O) (export : Option ℕ) (sector : ℕ) (h : List Entry) where
   pub record IsGreeted (before after : Client I O) (hand : HandEnd) (how : End) (n caller : ℕ) : Type 0 where
     -- what the handshake left of the source, and what the sink held then
     pub rest : Option (List ℕ)
     pub held : Option (List ℕ)
-    pub shook : Shakes (size_of g) (source.left before.source) rest (sink.contents before.sink) held hand
-    pub followed : Follows hand g.sector rest (source.left after.source) held (sink.contents after.sink)
+    pub opened : Opens export (source.left before.source) rest (sink.contents before.sink) held hand
+    pub followed : Follows hand sector rest (source.left after.source) held (sink.contents after.sink)
         (entries caller_of caller h) n how
     pub read_fault : HasCause (source.faults before.source) (source.faults after.source)
         ((hand ≡ ReadFault) ⊎ (how ≡ end.ReadFault))

@@ -1,10 +1,10 @@
 //! Serving all clients.
-ghost use Rattle.std.specs.Prelude.{◌≡◌, ◌≤◌, length, IfErr, IfOk};
+ghost use Rattle.std.specs.Prelude.{◌≡◌, ◌≤◌, length, IfErr, IfOk, Some};
 ghost use Rattle.hist_lock.specs.History.{SameUnder};
 ghost use Rattle.hist_lock.specs.Known.{numbers_of, view};
 ghost use Rattle.io_queue.specs.Pass.{caller_of, IsPass, NothingOpen};
 ghost use Rattle.vc_layout.specs.Layout.{IsSectorSize};
-ghost use Rattle.vol_server.specs.Served.{AreGreeted, AreNew, AreServed, Gained, IsBack};
+ghost use Rattle.vol_server.specs.Served.{AreGreeted, AreNew, AreServed, Gained, IsBack, size_of};
 
 use crate::join::join_all;
 use crate::run::run_all;
@@ -105,8 +105,8 @@ pub fn serve_hand<
     ensures open { NothingOpen (view pass.new.seat) }
     ensures same { IsBack (view pass.old.seat) (view pass.new.seat) }
     ensures settled { SameUnder caller_of (numbers_of (view pass.old.seat)) (view pass.new.seat).seen (view pass.old.seat).seen }
-    ensures served { IfOk result (λ r. AreGreeted ⟦<I as Source>⟧ ⟦<O as Sink>⟧ volume.now.geometry
-        (view pass.new.seat).seen clients.items r.0.clients.items r.1.items r.0.ends.items r.0.replies.items r.0.callers.items) }
+    ensures served { IfOk result (λ r. AreGreeted ⟦<I as Source>⟧ ⟦<O as Sink>⟧ (Some (size_of volume.now.geometry))
+        volume.now.geometry.sector (view pass.new.seat).seen clients.items r.0.clients.items r.1.items r.0.ends.items r.0.replies.items r.0.callers.items) }
     ensures callers { IfOk result (λ r. AreNew (view pass.old.seat).given r.0.callers.items) }
     ensures under { IfOk result (λ r. Gained r.0.callers.items (view pass.old.seat) (view pass.new.seat)) }
     ensures err { IfErr result (λ e. (e.1 ≡ clients) × (view pass.new.seat ≡ view pass.old.seat)) }
