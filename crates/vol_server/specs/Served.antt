@@ -8,7 +8,7 @@
 --                                         nothing is taken or sent, and the session follows as after Go
 -- IsSentAway .. es n how                  a client without a session: it is as its handshake left it, and has no entry
 -- Follows hand .. es n how                what followed a handshake that ended so: a session after Go, and none otherwise
--- IsGreeted .. before after hand how n caller   one client: its handshake, what followed it, and what failed in both together
+-- IsGreeted .. before after es hand n how one client: its handshake, what followed it, and what failed in both together
 -- AreGreeted ..                           all clients, in order, as AreServed, with the ends of their handshakes
 -- AreNew given callers                    no two of the numbers are the same, and each is at least `given`
 -- SameFraction v w                        they have the same share, also if its two numbers differ
@@ -62,24 +62,24 @@ abbrev pub Follows : HandEnd → ℕ → Option (List ℕ) → Option (List ℕ)
 Follows Go sector left later held now es n how = Serves sector left later held now (events_of es) n how
 Follows hand sector left later held now es n how = IsSentAway left later held now es n how
 
-module _ {I O : Type 0} (source : SourceGhosts I) (sink : SinkGhosts O) (export : Option ℕ) (sector : ℕ) (h : List Entry) where
-  pub record IsGreeted (before after : Client I O) (hand : HandEnd) (how : End) (n caller : ℕ) : Type 0 where
+module _ {I O : Type 0} (source : SourceGhosts I) (sink : SinkGhosts O) (export : Option ℕ) (sector : ℕ) where
+  pub record IsGreeted (before after : Client I O) (es : List Entry) (hand : HandEnd) (n : ℕ) (how : End) : Type 0 where
     -- what the handshake left of the source, and what the sink held then
     pub rest : Option (List ℕ)
     pub held : Option (List ℕ)
     pub opened : Opens export (source.left before.source) rest (sink.contents before.sink) held hand
-    pub followed : Follows hand sector rest (source.left after.source) held (sink.contents after.sink)
-        (entries caller_of caller h) n how
+    pub followed : Follows hand sector rest (source.left after.source) held (sink.contents after.sink) es n how
     pub read_fault : HasCause (source.faults before.source) (source.faults after.source)
         ((hand ≡ ReadFault) ⊎ (how ≡ end.ReadFault))
     pub write_fault : HasCause (sink.faults before.sink) (sink.faults after.sink)
         ((hand ≡ WriteFault) ⊎ (how ≡ end.WriteFault))
 
-  abbrev pub AreGreeted : List (Client I O) → List (Client I O) → List HandEnd → List End → List ℕ → List ℕ → Type 0
-  AreGreeted [] [] [] [] [] [] = ⊤
-  AreGreeted (before ∷ bs) (after ∷ xs) (hand ∷ gs) (how ∷ hs) (n ∷ ns) (caller ∷ cs) =
-      IsGreeted before after hand how n caller × AreGreeted bs xs gs hs ns cs
-  AreGreeted bs xs gs hs ns cs = ⊥
+  module _ (h : List Entry) where
+    abbrev pub AreGreeted : List (Client I O) → List (Client I O) → List HandEnd → List End → List ℕ → List ℕ → Type 0
+    AreGreeted [] [] [] [] [] [] = ⊤
+    AreGreeted (before ∷ bs) (after ∷ xs) (hand ∷ gs) (how ∷ hs) (n ∷ ns) (caller ∷ cs) =
+        IsGreeted before after (entries caller_of caller h) hand n how × AreGreeted bs xs gs hs ns cs
+    AreGreeted bs xs gs hs ns cs = ⊥
 
 pub record AreNew (given : ℕ) (callers : List ℕ) : Type 0 where
   pub apart : AllPairs (λ m n. m ≢ n) callers
