@@ -10,7 +10,7 @@ use Rattle.vc_outside.specs.Told.{Both, Grows, GrowsByFront}
 use Rattle.vc_app.specs.declared.counts.WorkError.{WorkError}
 use Rattle.vc_app.specs.declared.counts.WorkError.TheVariants as work
 use Rattle.vc_app.specs.declared.status.Status.{Status}
-use Rattle.vc_app.specs.declared.status.Status.TheVariants.{Done, Usage, NoHeader, NoHidden, Length, BadSize, DiskFault, OutFault, NoMemory, ClientCut, ClientMagic, ClientFault}
+use Rattle.vc_app.specs.declared.status.Status.TheVariants.{Done, Usage, NoHeader, NoHidden, Length, BadSize, DiskFault, OutFault, NoMemory, ClientCut, ClientMagic, ClientFault, ClientHand}
 use Rattle.vc_app.specs.Laws.Settled.{Settled}
 use Rattle.vc_app.specs.Status.{ended, IsAfterWork, IsOfPlain, IsRefusal, work_status}
 use Rattle.vc_app.specs.Promise.{goes, Goes, IsComplete, IsEarly, IsFront, IsLate, Kept, Outcome, Plan, Promise, anywhere, longer, nowhere, part, Reach, refused, Same, Seen, status_in, Unchanged, Whole, Within}
@@ -269,3 +269,4 @@ complete_kept p s old new kept o admitted is disk_small out_small disk_same out_
     by_status (ClientCut client) k = absurd k.possible
     by_status (ClientMagic client bytes) k = absurd k.possible
     by_status (ClientFault client) k = absurd k.possible
+    by_status (ClientHand client refusal) k = absurd k.possible

@@ -2,8 +2,8 @@
 --
 -- The numbers of all entries are those of the first pass and of the passes that were joined into it. The first pass has
 -- no entries of its own, so each entry is a client's. The opening state is the one that the pass began with.
-use Rattle.std.proofs.Common.{◌≡◌, ◌≤◌, inl, inr, ℕ, suc, List, [], ◌∷◌, ◌++◌, Option, Some, None, Result, Err, refl, sym, ap, ◌∙◌, subst, arith}
-use Rattle.std.specs.Prelude.{IfSome, length, MatchOption, option_and_then, option_map}
+use Rattle.std.proofs.Common.{◌≡◌, ◌≤◌, inl, inr, ℕ, suc, Bool, false, List, [], ◌∷◌, ◌++◌, Option, Some, None, Result, Err, refl, sym, ap, ◌∙◌, subst, arith}
+use Rattle.std.specs.Prelude.{IfSome, length, MatchOption, option_and_then, option_map, replicate}
 use Rattle.std.specs.List.{All, Contains}
 use Rattle.vc_base.specs.Faults.{HasCause, Rose}
 use Rattle.vc_layout.specs.declared.geometry.Geometry.{Geometry}
@@ -23,31 +23,33 @@ use Rattle.sector_model.specs.declared.entry.Entry.{Entry}
 use Rattle.io_core.specs.State.{State}
 use Rattle.io_core.proofs.Elements.{first_element}
 use Rattle.io_queue.specs.Pass.{Began, caller_of}
+use Rattle.nbd_hand.specs.declared.end.HandEnd.{HandEnd}
+use Rattle.nbd_hand.specs.declared.end.HandEnd.TheVariants as hand_end
 use Rattle.nbd_wire.specs.declared.end.End.{End}
 use Rattle.cmd_words.specs.Line.{Line, line, Text}
 use Rattle.cmd_words.specs.declared.command.Command.{Command}
 use Rattle.cmd_words.specs.declared.error.WordsError.{WordsError}
 use Rattle.cmd_words.specs.declared.error.WordsError.TheVariants as words
-use Rattle.vol_server.specs.Served.{AreServed, Gained, IsBack}
+use Rattle.vol_server.specs.Served.{AreGreeted, AreServed, Gained, IsBack}
 use Rattle.vc_app.specs.declared.serve.asked.Asked.{Asked}
 use Rattle.vc_app.specs.declared.status.Status.{Status}
 use Rattle.vc_app.specs.declared.status.Status.TheVariants.{NoMemory, OutFault, Usage}
 use Rattle.vc_app.specs.Access.{opened}
 use Rattle.vc_app.specs.Promise.{Seen, seen, Unchanged}
 use Rattle.vc_app.specs.Status.{words_status}
-use Rattle.vc_app.specs.Serve.{AllServed, asked, asked_by, Call, Idle, IsBase, Kept, lines, Protects, Ran, Refuses, Unserved}
+use Rattle.vc_app.specs.Serve.{AllServed, asked, asked_by, Call, export_of, Idle, IsBase, Kept, lines, Protects, Ran, Refuses, Unserved}
 use Rattle.vc_app.specs.Laws.Opening.{IsFirst, IsOpened, Opening, RanFrom}
 use Rattle.vc_app.proofs.Serving.{whose}
 
 -- ---- the pass of a volume that was served
 
 module _ {S C : Type 0} where
-  pub sector_is : (g : Geometry) (c : C) (w v : View (State S C) Entry) (base : State S C) → Began g c w → v ≡ closed w
-      → v.base ≡ Some base → g.sector ≡ base.geometry.sector
-  sector_is g c w v base began is e =
+  pub geometry_is : (g : Geometry) (c : C) (w v : View (State S C) Entry) (base : State S C) → Began g c w → v ≡ closed w
+      → v.base ≡ Some base → g ≡ base.geometry
+  geometry_is g c w v base began is e =
       let there : w.base ≡ Some base = ap (λ (x : View (State S C) Entry). x.base) (sym is) ∙ e in
       let same : began.base ≡ base = some_is (sym began.is ∙ there) in
-      ap (λ (x : Geometry). x.sector) (sym began.geometry ∙ ap (λ (s : State S C). s.geometry) same)
+      sym began.geometry ∙ ap (λ (s : State S C). s.geometry) same
     where
       some_is : {x y : State S C} → Some x ≡ Some y → x ≡ y
       some_is e = cc
@@ -79,25 +81,63 @@ module _ {T E : Type 0} where
   first_base v base is = ap (λ (x : View T E). x.base) is
 
 module _ {S C I O : Type 0} (source : SourceGhosts I) (sink : SinkGhosts O) where
-  pub served_by : (w v : View (State S C) Entry) (g : Geometry) (c : C) (base : State S C) (bs xs : List (Client I O)) (hs : List End)
-      (ns cs : List ℕ) → Began g c w → v ≡ closed w → v.base ≡ Some base → AreServed source sink g.sector w.seen bs xs hs ns cs
-      → AreServed source sink base.geometry.sector v.seen bs xs hs ns cs
-  served_by w v g c base bs xs hs ns cs began is e s =
-      subst (λ (k : ℕ). AreServed source sink k v.seen bs xs hs ns cs) (sector_is g c w v base began is e)
-      (subst (λ (x : View (State S C) Entry). AreServed source sink g.sector x.seen bs xs hs ns cs) (sym is) s)
+  pub served_by : (handshake : Bool) (w v : View (State S C) Entry) (g : Geometry) (c : C) (base : State S C) (bs xs : List (Client I O))
+      (gs : List HandEnd) (hs : List End) (ns cs : List ℕ) → Began g c w → v ≡ closed w → v.base ≡ Some base
+      → AreGreeted source sink (export_of handshake g) g.sector w.seen bs xs gs hs ns cs
+      → AreGreeted source sink (export_of handshake base.geometry) base.geometry.sector v.seen bs xs gs hs ns cs
+  served_by handshake w v g c base bs xs gs hs ns cs began is e s =
+      subst (λ (x : Geometry). AreGreeted source sink (export_of handshake x) x.sector v.seen bs xs gs hs ns cs)
+      (geometry_is g c w v base began is e)
+      (subst (λ (x : View (State S C) Entry). AreGreeted source sink (export_of handshake g) g.sector x.seen bs xs gs hs ns cs) (sym is) s)
 
 module _ {I O : Type 0} (source : SourceGhosts I) (sink : SinkGhosts O) (sector : ℕ) (h : List Entry) where
-  pub as_many_ends : (bs xs : List (Client I O)) (hs : List End) (ns cs : List ℕ) → AreServed source sink sector h bs xs hs ns cs
-      → length hs ≡ length bs
-  as_many_ends [] [] [] [] [] s = refl
-  as_many_ends (b ∷ bs) (x ∷ xs) (how ∷ hs) (n ∷ ns) (caller ∷ cs) s = ap suc (as_many_ends bs xs hs ns cs s.1)
-  as_many_ends bs xs hs ns cs s = absurd s
+  pub as_many_ends : (export : Option ℕ) (bs xs : List (Client I O)) (gs : List HandEnd) (hs : List End) (ns cs : List ℕ)
+      → AreGreeted source sink export sector h bs xs gs hs ns cs → length hs ≡ length bs
+  as_many_ends export [] [] [] [] [] [] s = refl
+  as_many_ends export (b ∷ bs) (x ∷ xs) (g ∷ gs) (how ∷ hs) (n ∷ ns) (caller ∷ cs) s = ap suc (as_many_ends export bs xs gs hs ns cs s.1)
+  as_many_ends export bs xs gs hs ns cs s = absurd s
 
-  pub as_many_counts : (bs xs : List (Client I O)) (hs : List End) (ns cs : List ℕ) → AreServed source sink sector h bs xs hs ns cs
-      → length ns ≡ length hs
-  as_many_counts [] [] [] [] [] s = refl
-  as_many_counts (b ∷ bs) (x ∷ xs) (how ∷ hs) (n ∷ ns) (caller ∷ cs) s = ap suc (as_many_counts bs xs hs ns cs s.1)
-  as_many_counts bs xs hs ns cs s = absurd s
+  pub as_many_hands : (export : Option ℕ) (bs xs : List (Client I O)) (gs : List HandEnd) (hs : List End) (ns cs : List ℕ)
+      → AreGreeted source sink export sector h bs xs gs hs ns cs → length gs ≡ length hs
+  as_many_hands export [] [] [] [] [] [] s = refl
+  as_many_hands export (b ∷ bs) (x ∷ xs) (g ∷ gs) (how ∷ hs) (n ∷ ns) (caller ∷ cs) s = ap suc (as_many_hands export bs xs gs hs ns cs s.1)
+  as_many_hands export bs xs gs hs ns cs s = absurd s
+
+  pub as_many_counts : (export : Option ℕ) (bs xs : List (Client I O)) (gs : List HandEnd) (hs : List End) (ns cs : List ℕ)
+      → AreGreeted source sink export sector h bs xs gs hs ns cs → length ns ≡ length hs
+  as_many_counts export [] [] [] [] [] [] s = refl
+  as_many_counts export (b ∷ bs) (x ∷ xs) (g ∷ gs) (how ∷ hs) (n ∷ ns) (caller ∷ cs) s = ap suc (as_many_counts export bs xs gs hs ns cs s.1)
+  as_many_counts export bs xs gs hs ns cs s = absurd s
+
+  -- clients without a handshake count as those whose handshake ended with Go
+  without_hands : (bs xs : List (Client I O)) (hs : List End) (ns cs : List ℕ) → AreServed source sink sector h bs xs hs ns cs
+      → AreGreeted source sink None sector h bs xs (replicate (length bs) hand_end.Go) hs ns cs
+  without_hands [] [] [] [] [] s = tt
+  without_hands (b ∷ bs) (x ∷ xs) (how ∷ hs) (n ∷ ns) (caller ∷ cs) s = (
+    record {
+      rest = source.left b.source;
+      held = sink.contents b.sink;
+      opened = (refl, refl, refl);
+      followed = s.0.served;
+      read_fault = record {
+        later = s.0.read_fault.later;
+        rose = λ e. elim e [ inl hand ↦ cc hand | inr session ↦ s.0.read_fault.rose session ];
+      };
+      write_fault = record {
+        later = s.0.write_fault.later;
+        rose = λ e. elim e [ inl hand ↦ cc hand | inr session ↦ s.0.write_fault.rose session ];
+      };
+    },
+    without_hands bs xs hs ns cs s.1,
+  )
+  without_hands bs xs hs ns cs s = absurd s
+
+  pub without_flag : (handshake : Bool) (g : Geometry) (gs : List HandEnd) (bs xs : List (Client I O)) (hs : List End) (ns cs : List ℕ)
+      → handshake ≡ false → gs ≡ replicate (length bs) hand_end.Go → AreServed source sink sector h bs xs hs ns cs
+      → AreGreeted source sink (export_of handshake g) sector h bs xs gs hs ns cs
+  without_flag handshake g gs bs xs hs ns cs none go s =
+      subst (λ (x : Bool). AreGreeted source sink (export_of x g) sector h bs xs gs hs ns cs) (sym none)
+      (subst (λ (x : List HandEnd). AreGreeted source sink None sector h bs xs x hs ns cs) (sym go) (without_hands bs xs hs ns cs s))
 
 -- ---- a call that touched nothing
 
@@ -115,11 +155,12 @@ unmoved {D} {P} d o x y out after is =
 -- ---- a call that begins earlier, with the same output
 
 pub record IsSameOut (mid old : Seen) : Type 0 where
-  contents : mid.contents ≡ old.contents
-  faults : mid.out_faults ≡ old.out_faults
+  pub contents : mid.contents ≡ old.contents
+  pub faults : mid.out_faults ≡ old.out_faults
 
 from_earlier : {I O : Type 0} (old : Seen) (c : Call I O) → IsSameOut c.old old → Idle c → Idle (record c { old = old })
 from_earlier old c out idle = record {
+  hands = idle.hands;
   ends = idle.ends;
   replies = idle.replies;
   callers = idle.callers;
@@ -128,19 +169,19 @@ from_earlier old c out idle = record {
   out_same = idle.out_same ∙ out.faults;
 }
 
-module _ {I O : Type 0} (source : SourceGhosts I) (sink : SinkGhosts O) (sector : ℕ) (h : List Entry) (faults : ℕ) where
-  served_from_earlier : (old : Seen) (c : Call I O) → IsSameOut c.old old → AllServed source sink sector h faults c
-      → AllServed source sink sector h faults (record c { old = old })
+module _ {I O : Type 0} (source : SourceGhosts I) (sink : SinkGhosts O) (export : Option ℕ) (sector : ℕ) (h : List Entry) (faults : ℕ) where
+  served_from_earlier : (old : Seen) (c : Call I O) → IsSameOut c.old old → AllServed source sink export sector h faults c
+      → AllServed source sink export sector h faults (record c { old = old })
   served_from_earlier old c out w = record {
     served = w.served;
     callers = w.callers;
     whose = w.whose;
     statuses = w.statuses;
-    printed = subst (λ (x : Option (List ℕ)). GrowsByFront x c.new.contents (lines 0 c.ends c.replies)) out.contents w.printed;
-    all_printed = λ done. subst (λ (x : Option (List ℕ)). Grows x c.new.contents (lines 0 c.ends c.replies)) out.contents
+    printed = subst (λ (x : Option (List ℕ)). GrowsByFront x c.new.contents (lines 0 c.hands c.ends c.replies)) out.contents w.printed;
+    all_printed = λ done. subst (λ (x : Option (List ℕ)). Grows x c.new.contents (lines 0 c.hands c.ends c.replies)) out.contents
         (w.all_printed done);
     clients_printed = λ of_client. elim (w.clients_printed of_client) [
-      | inl all ↦ inl (subst (λ (x : Option (List ℕ)). Grows x c.new.contents (lines 0 c.ends c.replies)) out.contents all)
+      | inl all ↦ inl (subst (λ (x : Option (List ℕ)). Grows x c.new.contents (lines 0 c.hands c.ends c.replies)) out.contents all)
       | inr rose ↦ inr (subst (λ (n : ℕ). Rose n c.new.out_faults) out.faults rose)
     ];
     quiet_fault = λ e. w.quiet_fault e ∙ out.contents;
@@ -163,19 +204,20 @@ asked_none arguments n is = ap (option_and_then (asked_by n)) is
 module _ {S C I O : Type 0} (store : StoreGhosts S) (cipher : CipherGhosts C) (source : SourceGhosts I) (sink : SinkGhosts O) where
   -- ---- an opened volume
 
-  pub opened_ran : (o : Opened) (range : Option (ℕ × ℕ)) (faults : ℕ) (pass : Option (View (State S C) Entry))
-      (u : View (State S C) Entry) (base : State S C) (c : Call I O) → MatchOption pass ⊥ (λ v. RanFrom store cipher source sink u v c)
-      → u.base ≡ Some base → IsOpened store cipher source sink o range c.old base → Opening store cipher source sink o range faults pass c
-  opened_ran o range faults None u base c ran is opened = absurd ran
-  opened_ran o range faults (Some v) u base c ran is opened =
+  pub opened_ran : (o : Opened) (range : Option (ℕ × ℕ)) (faults : ℕ) (handshake : Bool) (pass : Option (View (State S C) Entry))
+      (u : View (State S C) Entry) (base : State S C) (c : Call I O) → MatchOption pass ⊥ (λ v. RanFrom store cipher source sink handshake u v c)
+      → u.base ≡ Some base → IsOpened store cipher source sink o range c.old base → Opening store cipher source sink o range faults handshake pass c
+  opened_ran o range faults handshake None u base c ran is opened = absurd ran
+  opened_ran o range faults handshake (Some v) u base c ran is opened =
       record { base = base; is = ran.same ∙ is; opened = opened; ran = ran.ran }
 
-  ran_from_earlier : (old : Seen) (c : Call I O) (v : View (State S C) Entry) → IsSameOut c.old old → Ran store cipher source sink v c
-      → Ran store cipher source sink v (record c { old = old })
-  ran_from_earlier old c v out ran = record {
+  abbrev ran_from_earlier : (handshake : Bool) (old : Seen) (c : Call I O) (v : View (State S C) Entry) → IsSameOut c.old old
+      → Ran store cipher source sink handshake v c → Ran store cipher source sink handshake v (record c { old = old })
+  ran_from_earlier handshake old c v out ran = record {
     history = ran.history;
     outcome = elim ran.outcome [
-      | inl w ↦ inl (served_from_earlier source sink ran.history.state.base.geometry.sector v.seen (store.faults ran.history.left) old c out w)
+      | inl w ↦ inl (served_from_earlier source sink (export_of handshake ran.history.state.base.geometry)
+          ran.history.state.base.geometry.sector v.seen (store.faults ran.history.left) old c out w)
       | inr none ↦ inr (record { idle = from_earlier old c out none.idle; nothing = none.nothing; no_memory = none.no_memory })
     ];
   }
@@ -202,7 +244,7 @@ module _ {S C I O : Type 0} (store : StoreGhosts S) (cipher : CipherGhosts C) (s
 
   -- the headers are opened first: the output is still as it was, and the container as it was but for its count of faults
   pub asked_kept : (a : Asked) (o : Opened) (range : Option (ℕ × ℕ)) (faults : ℕ) (old : Seen) (pass : Option (View (State S C) Entry))
-      (c : Call I O) → Opening store cipher source sink o range faults pass c → IsSameOut c.old old → c.old.image ≡ old.image
+      (c : Call I O) → Opening store cipher source sink o range faults a.handshake pass c → IsSameOut c.old old → c.old.image ≡ old.image
       → c.old.size ≡ old.size → old.disk_faults ≤ c.old.disk_faults → faults ≡ old.disk_faults → IsContainerLength old.size
       → IfSome old.image (λ b. opened a.access b ≡ Some o) → Protects a.protect old.image range
       → (Unchanged c.old c.new → Unchanged old c.new) → Kept store cipher source sink (Some a) pass (record c { old = old })
@@ -222,7 +264,7 @@ module _ {S C I O : Type 0} (store : StoreGhosts S) (cipher : CipherGhosts C) (s
       let state = w.ran.history.state in
       let same : w.base ≡ state.base = some_is (sym w.is ∙ state.is) in
       record {
-        ran = ran_from_earlier old c v out w.ran;
+        ran = ran_from_earlier a.handshake old c v out w.ran;
         base = subst (IsBase store cipher a old) same
             (base_of a o range old c.old w.base image size later in_range opens protects w.opened);
       }

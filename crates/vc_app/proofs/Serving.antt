@@ -1,14 +1,17 @@
 -- What follows of a served call: when a volume is opened, and what comes without a fault.
 --
 -- A call that opened no volume has a cause, and each cause but being out of memory contradicts valid headers or the
--- counts of faults. A served client whose bytes are whole requests ends with the last of them, unless its source or
--- sink fails. So the status of the ends is Done, and a fault after that would have been counted.
-use Rattle.std.proofs.Common.{◌≡◌, ◌≢◌, ◌<◌, ◌⊎◌, inl, inr, ℕ, zero, suc, ◌+◌, ◌-◌, ◌^◌, Bool, true, false, cond, List, [], ◌∷◌, Option, Some, None, refl, sym, ap, ◌∙◌, subst, arith}
+-- counts of faults. A served client that sends a whole handshake, or whole requests, ends with the last of them, unless
+-- its source or sink fails. So the status of the ends is Done, and a fault after that would have been counted.
+use Rattle.std.proofs.Common.{◌≡◌, ◌≢◌, ◌<◌, ◌⊎◌, inl, inr, ℕ, zero, suc, ◌+◌, ◌*◌, ◌-◌, ◌^◌, Bool, true, false, cond, List, [], ◌∷◌, Option, Some, None, refl, sym, ap, ◌∙◌, subst, arith}
 use Rattle.std.specs.Prelude.{◌↔◌, IfSome, IsSome, IsSomeAnd, is_some, length, MatchOption, slice_index_or}
 use Rattle.std.specs.List.{All, Contains}
 use Rattle.std.proofs.lemmas.Bool.Decides.{eqb_tells}
 use Rattle.vc_base.specs.Faults.{Rose}
 use Rattle.vc_layout.specs.Layout.{IsContainerLength}
+use Rattle.vc_layout.specs.declared.geometry.Geometry.{Geometry}
+use Rattle.vc_header.specs.Volume.{IsVolume}
+use Rattle.vc_header.specs.declared.fields.Fields.{Fields}
 use Rattle.vc_outside.specs.declared.source.Client.{Client}
 use Rattle.vc_outside.specs.declared.store.Store.{Ghosts as StoreGhosts}
 use Rattle.vc_outside.specs.declared.source.Source.{Ghosts as SourceGhosts}
@@ -22,19 +25,22 @@ use Rattle.sector_model.specs.declared.entry.Event.{Event}
 use Rattle.io_core.specs.State.{State}
 use Rattle.io_core.proofs.Elements.{all_from_elements, at_element}
 use Rattle.io_queue.specs.Pass.{caller_of}
+use Rattle.nbd_hand.specs.Hand.{Hand, hand, Shakes}
+use Rattle.nbd_hand.specs.declared.end.HandEnd.{HandEnd}
+use Rattle.nbd_hand.specs.declared.end.HandEnd.TheVariants as hand_end
 use Rattle.nbd_wire.specs.Frames.{Frame, frames}
 use Rattle.nbd_wire.specs.Replies.{AnsweredOf}
 use Rattle.nbd_wire.specs.declared.end.End.{End}
 use Rattle.nbd_wire.specs.declared.end.End.TheVariants as end
-use Rattle.nbd_session.specs.Session.{Serves}
+use Rattle.nbd_session.specs.Session.{events_of, Serves}
 use Rattle.vc_app.specs.declared.access.Access.{Access}
 use Rattle.vc_app.specs.declared.serve.asked.Asked.{Asked}
 use Rattle.vc_app.specs.declared.status.Status.{Status}
-use Rattle.vc_app.specs.declared.status.Status.TheVariants.{Done, Usage, NoHeader, NoHidden, Length, BadSize, DiskFault, OutFault, NoMemory, ClientCut, ClientMagic, ClientFault}
+use Rattle.vc_app.specs.declared.status.Status.TheVariants.{Done, Usage, NoHeader, NoHidden, Length, BadSize, DiskFault, OutFault, NoMemory, ClientCut, ClientMagic, ClientFault, ClientHand}
 use Rattle.vc_app.specs.Access.{opened}
 use Rattle.vc_app.specs.Promise.{Seen}
-use Rattle.vol_server.specs.Served.{AreServed, IsServed}
-use Rattle.vc_app.specs.Serve.{AllServed, AreQuiet, AreWhole, Call, end_status, ends_status, IsComplete, IsOpening, IsQuiet, Kept, Opens, or_later, Protects, Refuses, Served}
+use Rattle.vol_server.specs.Served.{AreGreeted, Follows, IsGreeted}
+use Rattle.vc_app.specs.Serve.{AllServed, AreQuiet, AreRequests, AreWhole, Call, end_status, ends_status, export_of, IsComplete, IsOpening, IsQuiet, IsWholeHand, IsWholeInput, Kept, Opens, or_later, Protects, Refuses, Served, session_status}
 
 -- ---- whose the entries are
 
@@ -103,6 +109,7 @@ not_refused a b size before now NoMemory in_range opens quiet memory r = memory 
 not_refused a b size before now (ClientCut client) in_range opens quiet memory r = r
 not_refused a b size before now (ClientMagic client magic) in_range opens quiet memory r = r
 not_refused a b size before now (ClientFault client) in_range opens quiet memory r = r
+not_refused a b size before now (ClientHand client refusal) in_range opens quiet memory r = r
 
 -- ---- how a client ends
 
@@ -120,7 +127,7 @@ end_is sector (f ∷ fs) last how es n bytes (inr stops) = elim stops.cause [
 ]
 
 whole_end : (sector : ℕ) (left later held now : Option (List ℕ)) (es : List Event) (n : ℕ) (how : End)
-    → Serves sector left later held now es n how → MatchOption left ⊥ (λ bytes. (frames bytes).last ≡ end.Done)
+    → Serves sector left later held now es n how → MatchOption left ⊥ AreRequests
     → (how ≡ end.ReadFault → ⊥) → (how ≡ end.WriteFault → ⊥) → (how ≡ end.Done) ⊎ (how ≡ end.NoMemory)
 whole_end sector None later held now es n how s whole read write = absurd whole
 whole_end sector (Some bytes) later held now es n how s whole read write =
@@ -131,26 +138,91 @@ whole_end sector (Some bytes) later held now es n how s whole read write =
       | inr (inr (inr is)) ↦ inr is
     ]
 
-module _ {I O : Type 0} (source : SourceGhosts I) (sink : SinkGhosts O) (sector : ℕ) (h : List Entry) where
-  one_end : (b x : Client I O) (how : End) (n caller : ℕ) → IsServed source sink sector h b x how n caller
+abbrev EndsWell : Status → Type 0
+EndsWell s = (s ≡ Done) ⊎ (s ≡ NoMemory)
+
+session_well : (i : ℕ) (how : End) → (how ≡ end.Done) ⊎ (how ≡ end.NoMemory) → EndsWell (end_status i hand_end.Go how)
+session_well i how (inl e) = inl (ap (session_status i) e)
+session_well i how (inr e) = inr (ap (session_status i) e)
+
+later_well : (t s : Status) → EndsWell t → EndsWell s → EndsWell (or_later t s)
+later_well t s (inl e) others = subst (λ (x : Status). EndsWell (or_later x s)) (sym e) others
+later_well t s (inr e) others = inr (ap (λ (x : Status). or_later x s) e)
+
+-- a handshake that ended so, of bytes that are whole
+hand_is_whole : (h : Hand) (written : List ℕ) (g : HandEnd) (rest : List ℕ) → h ≡ record { written = written; last = g; rest = rest }
+    → IsWholeHand h → (g ≡ hand_end.Aborted) ⊎ ((g ≡ hand_end.Go) × AreRequests rest)
+hand_is_whole h written g rest is whole = subst IsWholeHand is whole
+
+module _ (i size sector : ℕ) (later held held_later now : Option (List ℕ)) (es : List Entry) (n : ℕ) (how : End) where
+  -- a client with a handshake
+  hand_well : (left rest : Option (List ℕ)) (g : HandEnd) → Shakes size left rest held held_later g
+      → Follows g sector rest later held_later now es n how → MatchOption left ⊥ (λ bytes. IsWholeHand (hand size bytes))
+      → ((g ≡ hand_end.ReadFault) ⊎ (how ≡ end.ReadFault) → ⊥) → ((g ≡ hand_end.WriteFault) ⊎ (how ≡ end.WriteFault) → ⊥)
+      → EndsWell (end_status i g how)
+  hand_well None rest g shook f whole read write = absurd whole
+  hand_well (Some bytes) rest hand_end.Aborted shook f whole read write = inl refl
+  hand_well (Some bytes) rest hand_end.ReadFault shook f whole read write = absurd (read (inl refl))
+  hand_well (Some bytes) rest hand_end.WriteFault shook f whole read write = absurd (write (inl refl))
+  hand_well (Some bytes) rest hand_end.NoMemory shook f whole read write = inr refl
+  hand_well (Some bytes) None hand_end.Go shook f whole read write = absurd (shook.whole (λ e. cc e))
+  hand_well (Some bytes) (Some rest) hand_end.Go shook f whole read write =
+      elim (hand_is_whole (hand size bytes) shook.written hand_end.Go rest (shook.whole (λ e. cc e)) whole) [
+        | inl aborted ↦ cc aborted
+        | inr goes ↦ session_well i how (whole_end sector (Some rest) later held_later now (events_of es) n how f goes.1
+            (λ e. read (inr e)) (λ e. write (inr e)))
+      ]
+  hand_well (Some bytes) None hand_end.Cut shook f whole read write = absurd (shook.whole (λ e. cc e))
+  hand_well (Some bytes) (Some rest) hand_end.Cut shook f whole read write =
+      elim (hand_is_whole (hand size bytes) shook.written hand_end.Cut rest (shook.whole (λ e. cc e)) whole) [
+        | inl aborted ↦ cc aborted
+        | inr goes ↦ cc goes.0
+      ]
+  hand_well (Some bytes) None (hand_end.Refused refusal) shook f whole read write = absurd (shook.whole (λ e. cc e))
+  hand_well (Some bytes) (Some rest) (hand_end.Refused refusal) shook f whole read write =
+      elim (hand_is_whole (hand size bytes) shook.written (hand_end.Refused refusal) rest (shook.whole (λ e. cc e)) whole) [
+        | inl aborted ↦ cc aborted
+        | inr goes ↦ cc goes.0
+      ]
+
+  -- a client without one
+  alone_well : (left rest : Option (List ℕ)) (g : HandEnd) → rest ≡ left → g ≡ hand_end.Go
+      → Follows g sector rest later held_later now es n how → MatchOption left ⊥ AreRequests
+      → (how ≡ end.ReadFault → ⊥) → (how ≡ end.WriteFault → ⊥) → EndsWell (end_status i g how)
+  alone_well left rest g same go f whole read write =
+      subst (λ (x : HandEnd). EndsWell (end_status i x how)) (sym go)
+      (session_well i how (whole_end sector rest later held_later now (events_of es) n how
+      (subst (λ (x : HandEnd). Follows x sector rest later held_later now es n how) go f)
+      (subst (λ (x : Option (List ℕ)). MatchOption x ⊥ AreRequests) (sym same) whole) read write))
+
+module _ {I O : Type 0} (source : SourceGhosts I) (sink : SinkGhosts O) (sector : ℕ) where
+  one_well : (export : Option ℕ) (i : ℕ) (b x : Client I O) (es : List Entry) (g : HandEnd) (n : ℕ) (how : End)
+      → IsGreeted source sink export sector b x es g n how
       → IsQuiet (source.faults b.source) (source.faults x.source) → IsQuiet (sink.faults b.sink) (sink.faults x.sink)
-      → MatchOption (source.left b.source) ⊥ (λ bytes. (frames bytes).last ≡ end.Done) → (how ≡ end.Done) ⊎ (how ≡ end.NoMemory)
-  one_end b x how n caller s reads writes whole =
-      whole_end sector (source.left b.source) (source.left x.source) (sink.contents b.sink) (sink.contents x.sink) _ n how s.served whole
+      → MatchOption (source.left b.source) ⊥ (IsWholeInput export) → EndsWell (end_status i g how)
+  one_well None i b x es g n how s reads writes whole =
+      alone_well i 0 sector (source.left x.source) (sink.contents b.sink) s.held (sink.contents x.sink) es n how
+      (source.left b.source) s.rest g s.opened.0 s.opened.2 s.followed whole
+      (λ e. no_rise _ _ reads.0 reads.1 (s.read_fault.rose (inr e))) (λ e. no_rise _ _ writes.0 writes.1 (s.write_fault.rose (inr e)))
+  one_well (Some size) i b x es g n how s reads writes whole =
+      hand_well i size sector (source.left x.source) (sink.contents b.sink) s.held (sink.contents x.sink) es n how
+      (source.left b.source) s.rest g s.opened s.followed whole
       (λ e. no_rise _ _ reads.0 reads.1 (s.read_fault.rose e)) (λ e. no_rise _ _ writes.0 writes.1 (s.write_fault.rose e))
 
-  next_end : (i : ℕ) (how : End) (rest : Status) → (how ≡ end.Done) ⊎ (how ≡ end.NoMemory) → (rest ≡ Done) ⊎ (rest ≡ NoMemory)
-      → (or_later (end_status i how) rest ≡ Done) ⊎ (or_later (end_status i how) rest ≡ NoMemory)
-  next_end i how rest (inl e) others = subst (λ (x : End). (or_later (end_status i x) rest ≡ Done) ⊎ (or_later (end_status i x) rest ≡ NoMemory)) (sym e) others
-  next_end i how rest (inr e) others = inr (ap (λ (x : End). or_later (end_status i x) rest) e)
+  all_well : (h : List Entry) (export : Option ℕ) (i : ℕ) (bs xs : List (Client I O)) (gs : List HandEnd) (hows : List End)
+      (ns cs : List ℕ) → AreGreeted source sink export sector h bs xs gs hows ns cs
+      → AreQuiet source sink bs xs → AreWhole source sink export bs → EndsWell (ends_status i gs hows)
+  all_well h export i [] [] [] [] [] [] s quiet whole = inl refl
+  all_well h export i (b ∷ bs) (x ∷ xs) (g ∷ gs) (how ∷ hows) (n ∷ ns) (caller ∷ cs) s quiet whole =
+      later_well (end_status i g how) (ends_status (i + 1) gs hows)
+      (one_well export i b x (entries caller_of caller h) g n how s.0 quiet.0 quiet.1 whole.0)
+      (all_well h export (i + 1) bs xs gs hows ns cs s.1 quiet.2 whole.1)
+  all_well h export i bs xs gs hows ns cs s quiet whole = absurd s
 
-  ends_well : (i : ℕ) (bs xs : List (Client I O)) (hs : List End) (ns cs : List ℕ) → AreServed source sink sector h bs xs hs ns cs
-      → AreQuiet source sink bs xs → AreWhole source sink bs → (ends_status i hs ≡ Done) ⊎ (ends_status i hs ≡ NoMemory)
-  ends_well i [] [] [] [] [] s quiet whole = inl refl
-  ends_well i (b ∷ bs) (x ∷ xs) (how ∷ hs) (n ∷ ns) (caller ∷ cs) s quiet whole =
-      next_end i how (ends_status (i + 1) hs) (one_end b x how n caller s.0 quiet.0 quiet.1 whole.0)
-      (ends_well (i + 1) bs xs hs ns cs s.1 quiet.2 whole.1)
-  ends_well i bs xs hs ns cs s quiet whole = absurd s
+-- the volume of a header has one size
+same_export : (handshake : Bool) (f : Fields) (v w : Geometry) → IsVolume f v → IsVolume f w → export_of handshake v ≡ export_of handshake w
+same_export false f v w at_v at_w = refl
+same_export true f v w at_v at_w = λ i. Some ((at_v.sectors ∙ sym at_w.sectors) i * (at_v.sector ∙ sym at_w.sector) i)
 
 -- ---- when a volume is opened, and what comes of it
 
@@ -186,7 +258,7 @@ module _ {S C I O : Type 0} (store : StoreGhosts S) (cipher : CipherGhosts C) (s
 
   pub complete : (asked : Option Asked) (pass : Option (View (State S C) Entry)) (c : Call I O)
       → Kept store cipher source sink asked pass c → IsComplete source sink asked c
-  complete asked pass c kept a b is known in_range opens quiet out clients whole = by_pass pass (kept_of asked a pass c is kept)
+  complete asked pass c kept a b header g is known in_range opens first volume quiet out clients whole = by_pass pass (kept_of asked a pass c is kept)
     where
       refused : (s : Status) → s ≢ NoMemory → Refuses a (Some b) c.old.size c.old.disk_faults c.new.disk_faults s → ⊥
       refused s memory r = not_refused a b c.old.size c.old.disk_faults c.new.disk_faults s in_range opens quiet memory r
@@ -204,11 +276,28 @@ module _ {S C I O : Type 0} (store : StoreGhosts S) (cipher : CipherGhosts C) (s
       memory_or (ClientCut client) r = absurd r
       memory_or (ClientMagic client magic) r = absurd r
       memory_or (ClientFault client) r = absurd r
+      memory_or (ClientHand client refusal) r = absurd r
+
+      -- the header is the first valid one, and its volume is the one that was served
+      by_header : (v : View (State S C) Entry) (k : Served store cipher source sink a v c) → k.base.header ≡ header
+      by_header v k = same_some (sym (subst (λ (x : Option (List ℕ)). IfSome x (λ b. opened a.access b ≡ Some k.base.header)) known k.base.opens) ∙ first)
+        where
+          same_some : {x y : Opened} → Some x ≡ Some y → x ≡ y
+          same_some e = cc
+
+      offered : (v : View (State S C) Entry) (k : Served store cipher source sink a v c)
+          → export_of a.handshake g ≡ export_of a.handshake k.ran.history.state.base.geometry
+      offered v k = same_export a.handshake header.fields g k.ran.history.state.base.geometry volume
+          (subst (λ (x : Opened). IsVolume x.fields k.ran.history.state.base.geometry) (by_header v k) k.base.geometry)
 
       by_status : (v : View (State S C) Entry) (k : Served store cipher source sink a v c)
-          (w : AllServed source sink k.ran.history.state.base.geometry.sector v.seen (store.faults k.ran.history.left) c)
-          → (c.status ≡ Done) ⊎ (c.status ≡ NoMemory)
-      by_status v k w = let t = ends_well source sink k.ran.history.state.base.geometry.sector v.seen 0 c.before c.after c.ends c.replies c.callers w.served clients whole in
+          (w : AllServed source sink (export_of a.handshake k.ran.history.state.base.geometry) k.ran.history.state.base.geometry.sector
+          v.seen (store.faults k.ran.history.left) c) → EndsWell c.status
+      by_status v k w =
+          let t : EndsWell (ends_status 0 c.hands c.ends)
+          = all_well source sink k.ran.history.state.base.geometry.sector v.seen (export_of a.handshake k.ran.history.state.base.geometry)
+          0 c.before c.after c.hands c.ends c.replies c.callers w.served clients
+          (subst (λ (x : Option ℕ). AreWhole source sink x c.before) (offered v k) whole) in
           elim w.statuses [
             | inl e ↦ absurd (at_sync v k (w.disk_fault.rose e))
             | inr (inl e) ↦ inr e

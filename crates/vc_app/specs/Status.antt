@@ -14,7 +14,7 @@ use Rattle.cmd_words.specs.declared.error.WordsError.TheVariants as reading
 use Rattle.vc_app.specs.declared.counts.WorkError.{WorkError}
 use Rattle.vc_app.specs.declared.counts.WorkError.TheVariants as work
 use Rattle.vc_app.specs.declared.status.Status.{Status}
-use Rattle.vc_app.specs.declared.status.Status.TheVariants.{Done, Usage, NoHeader, NoHidden, Length, BadSize, DiskFault, OutFault, NoMemory, ClientCut, ClientMagic, ClientFault}
+use Rattle.vc_app.specs.declared.status.Status.TheVariants.{Done, Usage, NoHeader, NoHidden, Length, BadSize, DiskFault, OutFault, NoMemory, ClientCut, ClientMagic, ClientFault, ClientHand}
 
 abbrev pub code_of : Status → ℕ
 code_of Done = 0
@@ -29,6 +29,7 @@ code_of NoMemory = 9
 code_of (ClientCut client) = 10
 code_of (ClientMagic client bytes) = 11
 code_of (ClientFault client) = 12
+code_of (ClientHand client refusal) = 13
 
 abbrev pub IsRefusal : Status → Type 0
 IsRefusal Usage = ⊤
@@ -45,6 +46,7 @@ abbrev pub IsOfPlain : Status → Type 0
 IsOfPlain (ClientCut client) = ⊥
 IsOfPlain (ClientMagic client bytes) = ⊥
 IsOfPlain (ClientFault client) = ⊥
+IsOfPlain (ClientHand client refusal) = ⊥
 IsOfPlain _ = ⊤
 
 -- ---- causes

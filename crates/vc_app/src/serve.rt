@@ -1,18 +1,20 @@
 //! The top call of `serve`.
-ghost use Rattle.std.specs.Prelude.{◌≡◌, ◌≤◌, ◌⊎◌, ℕ, [], length, map, string_bytes, All, Contains, IfSome, MatchOption, Some, option_map};
+ghost use Rattle.std.specs.Prelude.{◌≡◌, ◌≤◌, ◌⊎◌, ℕ, [], length, map, string_bytes, All, Contains, IfErr, IfOk, IfSome, MatchOption, Some, option_map, replicate};
 ghost use Rattle.vc_base.specs.Faults.{HasCause, Rose};
 ghost use Rattle.cmd_words.specs.Meaning.{meaning};
 ghost use Rattle.cmd_words.specs.Ranges.{IsInRange};
 ghost use Rattle.kdf_hmac.specs.Pbkdf2.{IsPim};
 ghost use Rattle.hist_lock.specs.Known.{IsWhole, closed, numbers_of, view};
+ghost use Rattle.hist_lock.specs.History.{SameUnder};
 ghost use Rattle.io_queue.specs.Closed.{IsLeft};
-ghost use Rattle.io_queue.specs.Pass.{IsPass, NothingOpen};
+ghost use Rattle.io_queue.specs.Pass.{caller_of, IsPass, NothingOpen};
+ghost use Rattle.vol_server.specs.Served.{AreGreeted, AreNew, Gained, IsBack};
 ghost use Rattle.vc_header.specs.Header.{Meets};
 ghost use Rattle.vc_layout.specs.Layout.{IsContainerLength, IsSectorSize};
 ghost use Rattle.vc_outside.specs.Crash.{IsLasting, Outcomes, Stays};
 ghost use Rattle.vc_outside.specs.Told.{Grows, GrowsByFront};
 ghost use Rattle.vc_app.specs.Laws.Opening.{IsFirst, Opening, RanFrom};
-ghost use Rattle.vc_app.specs.Serve.{asked, asked_by, call, ends_status, EndsBy, IsAfterSync, IsComplete, IsOfClient, IsOpening, Kept, lines, most_clients};
+ghost use Rattle.vc_app.specs.Serve.{asked, asked_by, call, ends_status, EndsBy, export_of, IsAfterSync, IsComplete, IsOfClient, IsOpening, Kept, lines, most_clients};
 
 use crate::serve::asked::Asked;
 use crate::serve::ends::write_ends;
@@ -25,13 +27,14 @@ use header_try::Opened;
 use hist_lock::{Pass, Standing};
 use io_core::{Core, NoMemory};
 use io_queue::Volume;
+use nbd_hand::HandEnd;
 use nbd_wire::End;
-use std::alloc::Global;
+use std::alloc::{AllocError, Global};
 use std::sync::Wait;
 use std::thread::Threads;
 use vc_header::geometry_of;
 use vc_outside::{Client, Gate, Sink, Source, Store};
-use vol_server::{Served, serve};
+use vol_server::{Served, serve, serve_hand};
 
 pub mod asked;
 mod ends;
@@ -50,7 +53,9 @@ where
     pub disk: D,
     pub clients: Vec<Client<I, O>>,
     pub out: P,
-    /// How the sessions ended.
+    /// How the handshakes ended. Without `--handshake` there were none, and each counts as `Go`.
+    pub hands: Vec<HandEnd>,
+    /// How the sessions ended. A client whose handshake didn't end with `Go` has none, which counts as `Done`.
     pub ends: Vec<End>,
     /// How many replies were written whole.
     pub replies: Vec<u64>,
@@ -62,8 +67,9 @@ where
 
 /// Carries out `serve` over a container, its clients and an output, and gives all of them back.
 ///
-/// The headers are opened, `--protect`'s too, and the clients' requests are answered by one history of the volume. Once
-/// all clients have ended, the container is synced, and a line for each client is written.
+/// The headers are opened, `--protect`'s too, and the clients' requests are answered by one history of the volume, after
+/// a handshake with each client if that is asked. Once all clients have ended, the container is synced, and a line for
+/// each client is written.
 pub fn run_serve<
     R: Threads + Wait + Sync,
     D: Store + Send,
@@ -152,6 +158,7 @@ fn idle_end<D: Store, I, O, P>(
     ensures disk { result.disk ≡ disk }
     ensures clients { result.clients.items ≡ clients.items }
     ensures out { result.out ≡ out }
+    ensures hands { result.hands.items ≡ [] }
     ensures ends { result.ends.items ≡ [] }
     ensures replies { result.replies.items ≡ [] }
     ensures callers { result.callers.items ≡ [] }
@@ -162,6 +169,7 @@ fn idle_end<D: Store, I, O, P>(
         disk,
         clients,
         out,
+        hands: Vec::new(alloc),
         ends: Vec::new(alloc),
         replies: Vec::new(alloc),
         callers: Vec::new(alloc),
@@ -209,6 +217,7 @@ fn serve_asked<
             clients,
             out,
             asked.helpers,
+            asked.handshake,
             gate,
         ),
         Err(status) => idle_end(alloc, status, disk, clients, out, None),
@@ -233,6 +242,7 @@ fn serve_opened<
     clients: Vec<Client<I, O>>,
     out: P,
     helpers: u32,
+    handshake: bool,
     gate: &G,
 ) -> ServeEnd<D, I, O, P>
     requires some { 1 ≤ length clients.items }
@@ -242,7 +252,7 @@ fn serve_opened<
     requires in_range { IsContainerLength (D.size disk) }
     requires faults { faults ≤ D.faults disk }
     ensures { Opening ⟦<D as Store>⟧ ⟦<Keyed as UnitCipher>⟧ ⟦<I as Source>⟧ ⟦<O as Sink>⟧
-        opened.now protect faults (option_map (λ p. view p.seat) result.pass)
+        opened.now protect faults handshake (option_map (λ p. view p.seat) result.pass)
         (call ⟦<D as Store>⟧ ⟦<P as Sink>⟧ disk clients.items out result) }
 {
     let keyed = Keyed::new(&Keys {
@@ -251,7 +261,11 @@ fn serve_opened<
     });
     let geometry = geometry_of(&opened.fields);
     match Volume::open(alloc, disk, geometry, keyed, protect, PENDING) {
-        Ok((volume, pass)) => { serve_volume(rt, alloc, volume, pass, clients, out, helpers, gate) }
+        Ok((volume, pass)) => {
+            serve_volume(
+                rt, alloc, volume, pass, clients, out, helpers, handshake, gate,
+            )
+        }
         Err((NoMemory, disk)) => {
             let status = memory_status(&disk, faults);
             idle_end(alloc, status, disk, clients, out, None)
@@ -276,6 +290,7 @@ fn serve_volume<
     clients: Vec<Client<I, O>>,
     out: P,
     helpers: u32,
+    handshake: bool,
     gate: &G,
 ) -> ServeEnd<D, I, O, P>
     requires some { 1 ≤ length clients.items }
@@ -286,13 +301,15 @@ fn serve_volume<
     requires first { IsFirst (view pass.seat) }
     requires sector { IsSectorSize volume.geometry.sector }
     ensures { (disk : D) → MatchOption (option_map (λ p. view p.seat) result.pass) ⊥ (λ v. RanFrom
-        ⟦<D as Store>⟧ ⟦<Keyed as UnitCipher>⟧ ⟦<I as Source>⟧ ⟦<O as Sink>⟧ (view pass.seat) v
+        ⟦<D as Store>⟧ ⟦<Keyed as UnitCipher>⟧ ⟦<I as Source>⟧ ⟦<O as Sink>⟧ handshake (view pass.seat) v
         (call ⟦<D as Store>⟧ ⟦<P as Sink>⟧ disk clients.items out result)) }
 {
     let mut pass = pass;
     let mut out = out;
-    match serve(rt, alloc, &volume, &mut pass, clients, helpers, gate) {
-        Ok(served) => {
+    match serve_clients(
+        rt, alloc, &volume, &mut pass, clients, helpers, handshake, gate,
+    ) {
+        Ok((served, hands)) => {
             let (disk, pass) = close_whole(volume, pass);
             let mut disk = disk;
             let Served {
@@ -301,12 +318,13 @@ fn serve_volume<
                 callers,
                 clients,
             } = served;
-            let status = end_call(alloc, &mut disk, &mut out, &ends, &replies);
+            let status = end_call(alloc, &mut disk, &mut out, &hands, &ends, &replies);
             ServeEnd {
                 status,
                 disk,
                 clients,
                 out,
+                hands,
                 ends,
                 replies,
                 callers,
@@ -318,6 +336,60 @@ fn serve_volume<
             idle_end(alloc, Status::NoMemory, disk, clients, out, Some(pass))
         }
     }
+}
+
+// Serves the clients, each after a handshake if that is asked. Without one it counts as a handshake that ended with `Go`.
+fn serve_clients<
+    R: Threads + Wait + Sync,
+    S: Store + Send,
+    C: UnitCipher + Send + Sync,
+    I: Source + Send,
+    O: Sink + Send,
+    G: Gate,
+>(
+    rt: &R,
+    alloc: Global,
+    volume: &Volume<S, C>,
+    pass: &mut Pass<Core<S, C>>,
+    clients: Vec<Client<I, O>>,
+    helpers: u32,
+    handshake: bool,
+    gate: &G,
+) -> Result<(Served<I, O>, Vec<HandEnd>), (NoMemory, Vec<Client<I, O>>)>
+    requires pass { IsPass volume.now.lock.table.shared.table_id volume.now.geometry volume.now.cipher pass.old.seat }
+    requires open { NothingOpen (view pass.old.seat) }
+    requires sector { IsSectorSize volume.now.geometry.sector }
+    requires some { 1 ≤ length clients.items }
+    requires few { length clients.items ≤ most_clients }
+    requires helpers { helpers ≤ 8 }
+    ensures pass { IsPass volume.now.lock.table.shared.table_id volume.now.geometry volume.now.cipher pass.new.seat }
+    ensures open { NothingOpen (view pass.new.seat) }
+    ensures same { IsBack (view pass.old.seat) (view pass.new.seat) }
+    ensures settled { SameUnder caller_of (numbers_of (view pass.old.seat)) (view pass.new.seat).seen (view pass.old.seat).seen }
+    ensures served { IfOk result (λ r. AreGreeted ⟦<I as Source>⟧ ⟦<O as Sink>⟧ (export_of handshake volume.now.geometry)
+        volume.now.geometry.sector (view pass.new.seat).seen clients.items r.0.clients.items r.1.items r.0.ends.items
+        r.0.replies.items r.0.callers.items) }
+    ensures callers { IfOk result (λ r. AreNew (view pass.old.seat).given r.0.callers.items) }
+    ensures under { IfOk result (λ r. Gained r.0.callers.items (view pass.old.seat) (view pass.new.seat)) }
+    ensures err { IfErr result (λ e. (e.1 ≡ clients) × (view pass.new.seat ≡ view pass.old.seat)) }
+{
+    if handshake {
+        return serve_hand(rt, alloc, volume, pass, clients, helpers, gate);
+    }
+    let Ok(hands) = all_go(alloc, &clients) else {
+        return Err((NoMemory, clients));
+    };
+    match serve(rt, alloc, volume, pass, clients, helpers, gate) {
+        Ok(served) => Ok((served, hands)),
+        Err(refused) => Err(refused),
+    }
+}
+
+// A handshake that ended with `Go` for each client.
+fn all_go<I, O>(alloc: Global, clients: &Vec<Client<I, O>>) -> Result<Vec<HandEnd>, AllocError>
+    ensures { IfOk result (λ hands. hands.items ≡ replicate (length clients.now.items) HandEnd.Go) }
+{
+    vec![in alloc; HandEnd::Go; clients.len()]
 }
 
 // Closes a volume with a pass that has the whole share.
@@ -343,17 +415,19 @@ fn end_call<D: Store, P: Sink>(
     alloc: Global,
     disk: &mut D,
     out: &mut P,
+    hands: &[HandEnd],
     ends: &[End],
     replies: &[u64],
 ) -> Status
     requires few { length ends.now ≤ 16 }
+    requires hands_as_long { length hands.now ≡ length ends.now }
     requires as_long { length replies.now ≡ length ends.now }
-    ensures statuses { EndsBy (ends_status 0 ends.now) result }
-    ensures printed { GrowsByFront (P.contents out.old) (P.contents out.new) (lines 0 ends.now replies.now) }
+    ensures statuses { EndsBy (ends_status 0 hands.now ends.now) result }
+    ensures printed { GrowsByFront (P.contents out.old) (P.contents out.new) (lines 0 hands.now ends.now replies.now) }
     ensures all_printed { result ≡ Status.Done
-        → Grows (P.contents out.old) (P.contents out.new) (lines 0 ends.now replies.now) }
+        → Grows (P.contents out.old) (P.contents out.new) (lines 0 hands.now ends.now replies.now) }
     ensures clients_printed { IsOfClient result
-        → Grows (P.contents out.old) (P.contents out.new) (lines 0 ends.now replies.now)
+        → Grows (P.contents out.old) (P.contents out.new) (lines 0 hands.now ends.now replies.now)
         ⊎ Rose (P.faults out.old) (P.faults out.new) }
     ensures quiet_fault { result ≡ Status.DiskFault → P.contents out.new ≡ P.contents out.old }
     ensures synced { IsAfterSync result → IsLasting D.tells (D.image disk.new) (D.may_leave disk.new) }
@@ -365,7 +439,7 @@ fn end_call<D: Store, P: Sink>(
         (D.left_since disk.new) (D.may_leave disk.old) (D.may_leave disk.new) Stays }
 {
     match disk.sync() {
-        Ok(()) => write_ends(alloc, out, ends, replies),
+        Ok(()) => write_ends(alloc, out, hands, ends, replies),
         Err(_) => Status::DiskFault,
     }
 }

@@ -5,6 +5,7 @@ ghost use Rattle.vc_app.specs.Status.{code_of, open_status, words_status, work_s
 use crate::counts::WorkError;
 use cmd_words::WordsError;
 use header_try::OpenError;
+use nbd_hand::Refusal;
 
 /// How a call ended. Each cause is a variant of its own.
 #[derive(Clone, Copy, Debug, PartialEq, Eq)]
@@ -33,6 +34,8 @@ pub enum Status {
     ClientMagic(u32, [u8; 4]),
     /// This client's input or output failed.
     ClientFault(u32),
+    /// This client's handshake was refused.
+    ClientHand(u32, Refusal),
 }
 
 impl Status {
@@ -53,6 +56,7 @@ impl Status {
             Status::ClientCut(_) => 10,
             Status::ClientMagic(_, _) => 11,
             Status::ClientFault(_) => 12,
+            Status::ClientHand(_, _) => 13,
         }
     }
 }

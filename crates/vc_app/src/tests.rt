@@ -10,6 +10,7 @@ mod format;
 mod hide;
 mod misses;
 mod serve;
+mod serve_hand;
 mod stops;
 
 use crate::{Status, run_plain};

@@ -291,5 +291,8 @@ fn tell<R: Eprint>(rt: &R, ending: Ending) -> io::Result<()> {
         Status::ClientFault(client) => eprintln!(rt;
             "vcserve: client {client}: input or output fault"
         ),
+        Status::ClientHand(client, _) => eprintln!(rt;
+            "vcserve: client {client}: handshake refused"
+        ),
     }
 }

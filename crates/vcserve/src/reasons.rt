@@ -3,6 +3,7 @@
 use crate::Ending;
 use crate::synopsis::{COMMANDS, synopsis_of};
 use cmd_words::{Fault, Reason, read_words, reason_of};
+use nbd_hand::Refusal;
 use secret_options::without_path;
 use std::io;
 use vc_app::Status;
@@ -65,17 +66,36 @@ pub(crate) fn explain<R: Eprint + AllocGlobal>(
         }
         Ending::Status(Status::ClientMagic(_, _)) => {
             eprintln!(rt;
-                "  a request begins with 25609513; there is no handshake and no text before it"
+                "  a request begins with 25609513; clients that begin with a handshake need --handshake"
             )
         }
         Ending::Status(Status::ClientFault(_)) => {
             eprintln!(rt; "  its input can't be read, or nothing takes the replies")
         }
+        Ending::Status(Status::ClientHand(_, refusal)) => explain_refusal(rt, refusal),
         Ending::Status(Status::Length(_)) => {
             eprintln!(rt; "  a container has 262656 to 1152921504606846976 bytes")
         }
         Ending::Status(Status::BadSize) => explain_size(rt, command),
         _ => Ok(()),
+    }
+}
+
+// Why a handshake was refused.
+fn explain_refusal<R: Eprint>(rt: &R, refusal: Refusal) -> io::Result<()> {
+    match refusal {
+        Refusal::Flags(flags) => {
+            eprintln!(rt;
+                "  it sent the client flags {flags:08x}; only the two lowest bits are known"
+            )
+        }
+        Refusal::Magic(_) => { eprintln!(rt; "  one of its options doesn't begin with IHAVEOPT") }
+        Refusal::Name(len) => eprintln!(rt;
+            "  it asked for an export whose name has {len} bytes; the only one has the empty name"
+        ),
+        Refusal::TooMany => {
+            eprintln!(rt; "  it sent 1024 options, and none of them began a session")
+        }
     }
 }
 

@@ -35,6 +35,7 @@ pub(crate) fn serve<R: Files<File = File> + Eprint + AllocGlobal + Threads + Wai
         disk,
         clients: _clients,
         out: _out,
+        hands: _hands,
         ends: _ends,
         replies: _replies,
         callers: _callers,

@@ -19,7 +19,7 @@ pub(crate) fn synopsis_of(name: &str) -> Option<&'static str> {
             "vcserve expand PATH --size N --password P --random HEX --no-hidden [--pim N]"
         }
         "serve" => {
-            "vcserve serve PATH --password P [--pim N] [--kind KIND] [--backup] [--protect P] [--protect-pim N] [--helpers N] [--workers N] -- INPUT OUTPUT [INPUT OUTPUT ..]"
+            "vcserve serve PATH --password P [--pim N] [--kind KIND] [--backup] [--protect P] [--protect-pim N] [--helpers N] [--workers N] [--handshake] -- INPUT OUTPUT [INPUT OUTPUT ..]"
         }
         _ => return None,
     };

@@ -3,7 +3,7 @@
 -- IsFirst v              the pass is the first of its volume, which has no history yet
 -- RanFrom u v c          the volume was served from the pass u on, and closed with the pass v
 -- Opening ..             the volume of an opened header was served, or there was no memory to open it
-use Rattle.std.specs.Prelude.{◌≡◌, ◌≤◌, ◌⊎◌, ℕ, List, [], Option, Some, MatchOption}
+use Rattle.std.specs.Prelude.{◌≡◌, ◌≤◌, ◌⊎◌, ℕ, Bool, List, [], Option, Some, MatchOption}
 use Rattle.vc_base.specs.Faults.{Rose}
 use Rattle.vc_header.specs.Volume.{IsVolume}
 use Rattle.vc_outside.specs.declared.store.Store.{Ghosts as StoreGhosts}
@@ -27,9 +27,9 @@ pub record IsFirst {T E : Type 0} (v : View T E) : Type 0 where
   pub under : v.under ≡ []
 
 module _ {S C I O : Type 0} (store : StoreGhosts S) (cipher : CipherGhosts C) (source : SourceGhosts I) (sink : SinkGhosts O) where
-  pub record RanFrom (u v : View (State S C) Entry) (c : Call I O) : Type 0 where
+  pub record RanFrom (handshake : Bool) (u v : View (State S C) Entry) (c : Call I O) : Type 0 where
     pub same : v.base ≡ u.base
-    pub ran : Ran store cipher source sink v c
+    pub ran : Ran store cipher source sink handshake v c
 
   -- what holds of the opening state
   pub record IsOpened (o : Opened) (range : Option (ℕ × ℕ)) (old : Seen) (base : State S C) : Type 0 where
@@ -46,11 +46,11 @@ module _ {S C I O : Type 0} (store : StoreGhosts S) (cipher : CipherGhosts C) (s
     pub unserved : Unserved c
     pub cause : ((c.status ≡ DiskFault) × Rose faults c.new.disk_faults) ⊎ ((c.status ≡ NoMemory) × (c.new.disk_faults ≡ faults))
 
-  pub record WasOpened (o : Opened) (range : Option (ℕ × ℕ)) (v : View (State S C) Entry) (c : Call I O) : Type 0 where
+  pub record WasOpened (o : Opened) (range : Option (ℕ × ℕ)) (handshake : Bool) (v : View (State S C) Entry) (c : Call I O) : Type 0 where
     pub base : State S C
     pub is : v.base ≡ Some base
     pub opened : IsOpened o range c.old base
-    pub ran : Ran store cipher source sink v c
+    pub ran : Ran store cipher source sink handshake v c
 
-  abbrev pub Opening : Opened → Option (ℕ × ℕ) → ℕ → Option (View (State S C) Entry) → Call I O → Type 0
-  Opening o range faults pass c = MatchOption pass (NotOpened faults c) (λ v. WasOpened o range v c)
+  abbrev pub Opening : Opened → Option (ℕ × ℕ) → ℕ → Bool → Option (View (State S C) Entry) → Call I O → Type 0
+  Opening o range faults handshake pass c = MatchOption pass (NotOpened faults c) (λ v. WasOpened o range handshake v c)

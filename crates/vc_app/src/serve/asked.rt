@@ -13,14 +13,15 @@ use kdf_hmac::Password;
 /// How many clients are served at most.
 const MOST_CLIENTS: usize = 16;
 
-/// What `serve` is asked: the header to open, the hidden one to protect, how many helpers take fragments, and how many
-/// workers derive the keys of headers.
+/// What `serve` is asked: the header to open, the hidden one to protect, how many helpers take fragments, how many
+/// workers derive the keys of headers, and whether clients begin with a handshake.
 #[derive(Drop)]
 pub struct Asked {
     pub access: Access,
     pub protect: Option<Access>,
     pub helpers: u32,
     pub workers: u32,
+    pub handshake: bool,
 }
 
 impl Asked {
@@ -47,6 +48,7 @@ impl Asked {
                 protect,
                 helpers,
                 workers,
+                handshake,
             } => {
                 let access = Access {
                     password,
@@ -58,6 +60,7 @@ impl Asked {
                     protect: protecting(kind, protect),
                     helpers,
                     workers,
+                    handshake,
                 })
             }
             _ => None,

@@ -71,6 +71,7 @@ fn serve<R: Threads + Wait + Sync + AllocGlobal>(
         disk,
         clients,
         out,
+        hands: _hands,
         ends: _ends,
         replies: _replies,
         callers: _callers,

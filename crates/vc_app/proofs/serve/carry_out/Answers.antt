@@ -15,6 +15,7 @@ returns-in-None g c = let e = c.idle_end.ensures in
       no_value _ _ e.pass,
       record {
         idle = record {
+          hands = e.hands;
           ends = e.ends;
           replies = e.replies;
           callers = e.callers;
@@ -34,6 +35,7 @@ returns-in-Err g c = let e = c.idle_end-in-Err.ensures in
     _ _ refl c.in-Err.ensures.usage (no_value _ _ e.pass)
     (record {
       idle = record {
+        hands = e.hands;
         ends = e.ends;
         replies = e.replies;
         callers = e.callers;

@@ -5,7 +5,7 @@ use Rattle.vc_app.proofs.serve.serve_opened.Goals as goal
 
 pub returns-in-Ok : goal.returns-in-Ok
 returns-in-Ok g c =
-    opened_ran g.D.Store _ g.I.Source g.O.Sink c.args.opened.now c.args.protect c.args.faults
+    opened_ran g.D.Store _ g.I.Source g.O.Sink c.args.opened.now c.args.protect c.args.faults c.args.handshake
     _ (view c.in-Ok.pass.seat) _ _ (c.serve_volume.ensures c.args.disk) (first_base (view c.in-Ok.pass.seat) _ c.in-Ok.ensures.first) (record {
       image = refl;
       size = refl;
