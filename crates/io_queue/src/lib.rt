@@ -7,12 +7,15 @@
 //! ```text
 //!   read    range | fetch: one turn, asked again while a write overlaps it | decipher in the buffer
 //!   write   range | take all memory | admit: one turn, asked again while a write overlaps it or too many
-//!           are pending | each fragment: encipher, then deposit in one turn | end: one turn
+//!           are pending | each fragment: encipher, then deposit in one turn | end: one turn, asked
+//!           again while helpers have fragments
 //!   flush   one turn
 //! ```
 //!
 //! The range is checked before anything else. Ciphers run outside the turns. A thread that has to ask again
-//! sleeps until a write has ended. In proofs each call adds its entries, and nothing else, to the one history
+//! sleeps until a write has ended. The fragments of a write are jobs on its client's bench (`frag_pool`), if there
+//! are several and its pool has helpers: `help_one` takes one from any bench, and `news`, `wait_for_news` and
+//! `tell_news` let helpers sleep. In proofs each call adds its entries, and nothing else, to the one history
 //! of the volume, under the number of its pass; `specs/Calls.antt` lists them by the call's result.
 //! Requests are in sectors of the volume. Only `open` and `write` take memory, `write` all of it before the
 //! write is admitted: an admitted write returns Ok or Fault.
