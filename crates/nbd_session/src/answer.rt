@@ -1,5 +1,6 @@
 //! The answer to one request: the volume's call, and the reply.
-ghost use Rattle.std.specs.Prelude.{◌≡◌, ◌≢◌, ◌+◌, ℕ, length, IfSome, List, Some};
+ghost use Rattle.std.specs.Prelude.{◌≡◌, ◌≢◌, ◌+◌, ℕ, length, true, IfSome, List, Some};
+ghost use Rattle.frag_pool.specs.Bench.{is_empty};
 ghost use Rattle.hist_lock.specs.Known.{view};
 ghost use Rattle.io_queue.specs.Pass.{IsPass, NothingOpen};
 ghost use Rattle.nbd_session.specs.Laws.Acts.{Acts, IsRange};
@@ -10,6 +11,7 @@ ghost use Rattle.vc_layout.specs.Layout.{IsSectorSize};
 use crate::reply::{reply_alone, reply_data};
 use crate::sectors::{flush_volume, read_sectors, write_request};
 use cipher_base::UnitCipher;
+use frag_pool::Bench;
 use hist_lock::Pass;
 use io_core::Core;
 use io_queue::Volume;
@@ -25,6 +27,7 @@ pub(crate) fn answer<R: Threads + Wait + Sync, S: Store, C: UnitCipher + Sync, O
     alloc: Global,
     volume: &Volume<S, C>,
     pass: &mut Pass<Core<S, C>>,
+    bench: &mut Bench,
     gate: &G,
     sink: &mut O,
     request: &Request,
@@ -33,12 +36,14 @@ pub(crate) fn answer<R: Threads + Wait + Sync, S: Store, C: UnitCipher + Sync, O
 ) -> Option<End>
     requires pass { IsPass volume.now.lock.table.shared.table_id volume.now.geometry volume.now.cipher pass.old.seat }
     requires open { NothingOpen (view pass.old.seat) }
+    requires bench { is_empty bench.old ≡ true }
     requires sector { IsSectorSize volume.now.geometry.sector }
     requires asked { asked volume.now.geometry.sector request.now ≡ ask }
     requires stays { ask ≢ Ask.Disconnect }
     requires size { IfSome kept (λ v. length v.items ≡ request.now.length) }
     ensures pass { IsPass volume.now.lock.table.shared.table_id volume.now.geometry volume.now.cipher pass.new.seat }
     ensures open { NothingOpen (view pass.new.seat) }
+    ensures bench { is_empty bench.new ≡ true }
     ensures acts { (payload : List ℕ) → IfSome kept (λ v. v.items ≡ payload) → Acts volume.now.geometry.sector (record { request = request.now; payload = payload })
         (view pass.old.seat) (view pass.new.seat) (O.contents sink.old) (O.contents sink.new) result }
     ensures cause { HasCause (O.faults sink.old) (O.faults sink.new) (result ≡ Some End.WriteFault) }
@@ -51,7 +56,7 @@ pub(crate) fn answer<R: Threads + Wait + Sync, S: Store, C: UnitCipher + Sync, O
         }
         Ask::Write { first, count, fua } => {
             answer_write(
-                rt, alloc, volume, pass, gate, sink, request, first, count, fua, kept,
+                rt, alloc, volume, pass, bench, gate, sink, request, first, count, fua, kept,
             )
         }
         Ask::Flush => answer_flush(rt, volume, pass, sink, request),
@@ -124,6 +129,7 @@ fn answer_write<R: Threads + Wait + Sync, S: Store, C: UnitCipher, O: Sink, G: G
     alloc: Global,
     volume: &Volume<S, C>,
     pass: &mut Pass<Core<S, C>>,
+    bench: &mut Bench,
     gate: &G,
     sink: &mut O,
     request: &Request,
@@ -134,12 +140,14 @@ fn answer_write<R: Threads + Wait + Sync, S: Store, C: UnitCipher, O: Sink, G: G
 ) -> Option<End>
     requires pass { IsPass volume.now.lock.table.shared.table_id volume.now.geometry volume.now.cipher pass.old.seat }
     requires open { NothingOpen (view pass.old.seat) }
+    requires bench { is_empty bench.old ≡ true }
     requires sector { IsSectorSize volume.now.geometry.sector }
     requires asked { asked volume.now.geometry.sector request.now ≡ Ask.Write first count fua }
     requires range { IsRange volume.now.geometry.sector request.now first count }
     requires size { IfSome kept (λ v. length v.items ≡ request.now.length) }
     ensures pass { IsPass volume.now.lock.table.shared.table_id volume.now.geometry volume.now.cipher pass.new.seat }
     ensures open { NothingOpen (view pass.new.seat) }
+    ensures bench { is_empty bench.new ≡ true }
     ensures acts { (payload : List ℕ) → IfSome kept (λ v. v.items ≡ payload) → Acts volume.now.geometry.sector (record { request = request.now; payload = payload })
         (view pass.old.seat) (view pass.new.seat) (O.contents sink.old) (O.contents sink.new) result }
     ensures cause { HasCause (O.faults sink.old) (O.faults sink.new) (result ≡ Some End.WriteFault) }
@@ -147,7 +155,9 @@ fn answer_write<R: Threads + Wait + Sync, S: Store, C: UnitCipher, O: Sink, G: G
     let Some(payload) = kept else {
         return reply_alone(sink, request, Outcome::NoMemory);
     };
-    let written = write_request(rt, alloc, volume, pass, gate, first, count, fua, payload);
+    let written = write_request(
+        rt, alloc, volume, pass, bench, gate, first, count, fua, payload,
+    );
     reply_alone(sink, request, written)
 }
 

@@ -1,5 +1,6 @@
 //! A session with one client.
-ghost use Rattle.std.specs.Prelude.{◌≡◌, ℕ, List, Option, IfSome, IsNone, Some};
+ghost use Rattle.std.specs.Prelude.{◌≡◌, ℕ, List, Option, IfSome, IsNone, Some, true};
+ghost use Rattle.frag_pool.specs.Bench.{is_empty};
 ghost use Rattle.hist_lock.specs.Known.{view};
 ghost use Rattle.io_queue.specs.Pass.{Call, IsPass, NothingOpen};
 ghost use Rattle.nbd_session.specs.Laws.Onward.{Answers};
@@ -13,6 +14,7 @@ use crate::answer::answer;
 use crate::head::next_request;
 use crate::payload::take_rest;
 use cipher_base::UnitCipher;
+use frag_pool::Bench;
 use hist_lock::Pass;
 use io_core::Core;
 use io_queue::Volume;
@@ -23,9 +25,10 @@ use std::thread::Threads;
 use vc_outside::{Client, Gate, Sink, Source, Store};
 
 /// Serves one client: takes its requests one by one, has the volume carry them out and replies to each, in
-/// order, until it ends. Returns how it ended, and how many replies were written whole. It holds the memory of
-/// one request at a time. If there is none for a read's or a write's data, the request is replied to with the
-/// error for that, nothing is done, and the session goes on.
+/// order, until it ends. Returns how it ended, and how many replies were written whole. `bench` is for the
+/// fragments of its writes, of which helpers may take some; it is empty before and after. A session holds the
+/// memory of one request at a time. If there is none for a read's or a write's data, the request is replied to
+/// with the error for that, nothing is done, and the session goes on.
 pub fn session<
     R: Threads + Wait + Sync,
     S: Store,
@@ -38,14 +41,17 @@ pub fn session<
     alloc: Global,
     volume: &Volume<S, C>,
     pass: &mut Pass<Core<S, C>>,
+    bench: &mut Bench,
     gate: &G,
     link: &mut Client<I, O>,
 ) -> (End, u64)
     requires pass { IsPass volume.now.lock.table.shared.table_id volume.now.geometry volume.now.cipher pass.old.seat }
     requires open { NothingOpen (view pass.old.seat) }
+    requires bench { is_empty bench.old ≡ true }
     requires sector { IsSectorSize volume.now.geometry.sector }
     ensures pass { IsPass volume.now.lock.table.shared.table_id volume.now.geometry volume.now.cipher pass.new.seat }
     ensures open { NothingOpen (view pass.new.seat) }
+    ensures bench { is_empty bench.new ≡ true }
     ensures served { (es : List Entry) × Call (view pass.old.seat) (view pass.new.seat) es
         × Serves volume.now.geometry.sector (I.left link.old.source) (I.left link.new.source)
         (O.contents link.old.sink) (O.contents link.new.sink) (events_of es) result.1 result.0 }
@@ -53,7 +59,7 @@ pub fn session<
     ensures write_fault { HasCause (O.faults link.old.sink) (O.faults link.new.sink) (result.0 ≡ End.WriteFault) }
 {
     'requests: for n in 0..u64::MAX {
-        if let Some(end) = serve_next(rt, alloc, volume, pass, gate, link) {
+        if let Some(end) = serve_next(rt, alloc, volume, pass, bench, gate, link) {
             return (end, n);
         }
     }
@@ -74,14 +80,17 @@ fn serve_next<
     alloc: Global,
     volume: &Volume<S, C>,
     pass: &mut Pass<Core<S, C>>,
+    bench: &mut Bench,
     gate: &G,
     link: &mut Client<I, O>,
 ) -> Option<End>
     requires pass { IsPass volume.now.lock.table.shared.table_id volume.now.geometry volume.now.cipher pass.old.seat }
     requires open { NothingOpen (view pass.old.seat) }
+    requires bench { is_empty bench.old ≡ true }
     requires sector { IsSectorSize volume.now.geometry.sector }
     ensures pass { IsPass volume.now.lock.table.shared.table_id volume.now.geometry volume.now.cipher pass.new.seat }
     ensures open { NothingOpen (view pass.new.seat) }
+    ensures bench { is_empty bench.new ≡ true }
     ensures goes_on { IsNone result → (es : List Entry) × Call (view pass.old.seat) (view pass.new.seat) es
         × Answers volume.now.geometry.sector (I.left link.old.source) (I.left link.new.source)
         (O.contents link.old.sink) (O.contents link.new.sink) (events_of es) }
@@ -92,7 +101,7 @@ fn serve_next<
     ensures write_fault { HasCause (O.faults link.old.sink) (O.faults link.new.sink) (result ≡ Some End.WriteFault) }
 {
     match next_request(&mut link.source) {
-        Ok(request) => serve_request(rt, alloc, volume, pass, gate, link, &request),
+        Ok(request) => serve_request(rt, alloc, volume, pass, bench, gate, link, &request),
         Err(end) => Some(end),
     }
 }
@@ -110,15 +119,18 @@ fn serve_request<
     alloc: Global,
     volume: &Volume<S, C>,
     pass: &mut Pass<Core<S, C>>,
+    bench: &mut Bench,
     gate: &G,
     link: &mut Client<I, O>,
     request: &Request,
 ) -> Option<End>
     requires pass { IsPass volume.now.lock.table.shared.table_id volume.now.geometry volume.now.cipher pass.old.seat }
     requires open { NothingOpen (view pass.old.seat) }
+    requires bench { is_empty bench.old ≡ true }
     requires sector { IsSectorSize volume.now.geometry.sector }
     ensures pass { IsPass volume.now.lock.table.shared.table_id volume.now.geometry volume.now.cipher pass.new.seat }
     ensures open { NothingOpen (view pass.new.seat) }
+    ensures bench { is_empty bench.new ≡ true }
     ensures goes_on { (before : Option (List ℕ)) → TakesHead before (I.left link.old.source) request.now → IsNone result
         → (es : List Entry) × Call (view pass.old.seat) (view pass.new.seat) es
         × Answers volume.now.geometry.sector before (I.left link.new.source)
@@ -140,6 +152,7 @@ fn serve_request<
             alloc,
             volume,
             pass,
+            bench,
             gate,
             &mut link.sink,
             request,

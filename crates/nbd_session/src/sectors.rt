@@ -1,5 +1,6 @@
 //! What a request does with the volume.
-ghost use Rattle.std.specs.Prelude.{◌≡◌, ◌<◌, ◌≤◌, ◌*◌, ◌^◌, false, length, List};
+ghost use Rattle.std.specs.Prelude.{◌≡◌, ◌<◌, ◌≤◌, ◌*◌, ◌^◌, false, true, length, List};
+ghost use Rattle.frag_pool.specs.Bench.{is_empty};
 ghost use Rattle.hist_lock.specs.Known.{view};
 ghost use Rattle.io_queue.specs.Pass.{Call, IsPass, NothingOpen};
 ghost use Rattle.nbd_session.specs.Laws.Outcomes.{data_of, outcome_of};
@@ -9,6 +10,7 @@ ghost use Rattle.sector_model.specs.declared.entry.Entry.{Entry};
 ghost use Rattle.vc_layout.specs.Layout.{IsSectorSize};
 
 use cipher_base::UnitCipher;
+use frag_pool::Bench;
 use hist_lock::Pass;
 use io_core::Core;
 use io_queue::{IoError, Volume};
@@ -49,6 +51,7 @@ pub(crate) fn write_sectors<R: Threads + Wait + Sync, S: Store, C: UnitCipher, G
     alloc: Global,
     volume: &Volume<S, C>,
     pass: &mut Pass<Core<S, C>>,
+    bench: &mut Bench,
     gate: &G,
     first: u64,
     count: u64,
@@ -56,6 +59,7 @@ pub(crate) fn write_sectors<R: Threads + Wait + Sync, S: Store, C: UnitCipher, G
 ) -> Outcome
     requires pass { IsPass volume.now.lock.table.shared.table_id volume.now.geometry volume.now.cipher pass.old.seat }
     requires open { NothingOpen (view pass.old.seat) }
+    requires bench { is_empty bench.old ≡ true }
     requires sector { IsSectorSize volume.now.geometry.sector }
     requires some { 0 < length payload.items }
     requires whole { length payload.items ≡ volume.now.geometry.sector * count }
@@ -63,12 +67,13 @@ pub(crate) fn write_sectors<R: Threads + Wait + Sync, S: Store, C: UnitCipher, G
     requires within { first < 2 ^ 55 }
     ensures pass { IsPass volume.now.lock.table.shared.table_id volume.now.geometry volume.now.cipher pass.new.seat }
     ensures open { NothingOpen (view pass.new.seat) }
+    ensures bench { is_empty bench.new ≡ true }
     ensures call { (es : List Entry) × Call (view pass.old.seat) (view pass.new.seat) es
         × WriteLeaves first count false payload.items result (events_of es) }
 {
     let _ = count;
     outcome_of(
-        volume.write(rt, alloc, pass, gate, first, payload),
+        volume.write(rt, alloc, pass, bench, gate, first, payload),
         Outcome::WriteBeyond,
     )
 }
@@ -79,6 +84,7 @@ pub(crate) fn write_request<R: Threads + Wait + Sync, S: Store, C: UnitCipher, G
     alloc: Global,
     volume: &Volume<S, C>,
     pass: &mut Pass<Core<S, C>>,
+    bench: &mut Bench,
     gate: &G,
     first: u64,
     count: u64,
@@ -87,6 +93,7 @@ pub(crate) fn write_request<R: Threads + Wait + Sync, S: Store, C: UnitCipher, G
 ) -> Outcome
     requires pass { IsPass volume.now.lock.table.shared.table_id volume.now.geometry volume.now.cipher pass.old.seat }
     requires open { NothingOpen (view pass.old.seat) }
+    requires bench { is_empty bench.old ≡ true }
     requires sector { IsSectorSize volume.now.geometry.sector }
     requires some { 0 < length payload.items }
     requires whole { length payload.items ≡ volume.now.geometry.sector * count }
@@ -94,10 +101,11 @@ pub(crate) fn write_request<R: Threads + Wait + Sync, S: Store, C: UnitCipher, G
     requires within { first < 2 ^ 55 }
     ensures pass { IsPass volume.now.lock.table.shared.table_id volume.now.geometry volume.now.cipher pass.new.seat }
     ensures open { NothingOpen (view pass.new.seat) }
+    ensures bench { is_empty bench.new ≡ true }
     ensures call { (es : List Entry) × Call (view pass.old.seat) (view pass.new.seat) es
         × WriteLeaves first count fua payload.items result (events_of es) }
 {
-    let stored = write_sectors(rt, alloc, volume, pass, gate, first, count, payload);
+    let stored = write_sectors(rt, alloc, volume, pass, bench, gate, first, count, payload);
     if !fua {
         return stored;
     }

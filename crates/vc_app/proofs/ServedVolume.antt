@@ -117,7 +117,7 @@ module _ {I O : Type 0} (source : SourceGhosts I) (sink : SinkGhosts O) (sector 
     record {
       rest = source.left b.source;
       held = sink.contents b.sink;
-      opened = (refl, refl, refl);
+      greeted = (refl, refl, refl);
       followed = s.0.served;
       read_fault = record {
         later = s.0.read_fault.later;

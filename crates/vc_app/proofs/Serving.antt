@@ -202,11 +202,11 @@ module _ {I O : Type 0} (source : SourceGhosts I) (sink : SinkGhosts O) (sector 
       → MatchOption (source.left b.source) ⊥ (IsWholeInput export) → EndsWell (end_status i g how)
   one_well None i b x es g n how s reads writes whole =
       alone_well i 0 sector (source.left x.source) (sink.contents b.sink) s.held (sink.contents x.sink) es n how
-      (source.left b.source) s.rest g s.opened.0 s.opened.2 s.followed whole
+      (source.left b.source) s.rest g s.greeted.0 s.greeted.2 s.followed whole
       (λ e. no_rise _ _ reads.0 reads.1 (s.read_fault.rose (inr e))) (λ e. no_rise _ _ writes.0 writes.1 (s.write_fault.rose (inr e)))
   one_well (Some size) i b x es g n how s reads writes whole =
       hand_well i size sector (source.left x.source) (sink.contents b.sink) s.held (sink.contents x.sink) es n how
-      (source.left b.source) s.rest g s.opened s.followed whole
+      (source.left b.source) s.rest g s.greeted s.followed whole
       (λ e. no_rise _ _ reads.0 reads.1 (s.read_fault.rose e)) (λ e. no_rise _ _ writes.0 writes.1 (s.write_fault.rose e))
 
   all_well : (h : List Entry) (export : Option ℕ) (i : ℕ) (bs xs : List (Client I O)) (gs : List HandEnd) (hows : List End)

@@ -36,12 +36,6 @@ module _ {X : Type 0} where
   pub holds_next : (P : X → Type 0) (n : ℕ) (xs old rest : List X) (x : X) → old ≡ drop n xs → old ≡ x ∷ rest → All P xs → P x
   holds_next P n xs old rest x at is all = All-head P x rest (All-same P (x ∷ rest) (drop n xs) (sym is ∙ at) (All-drop P n xs all))
 
-  pub one_noted : {Y : Type 0} (f : X → Y) (n : ℕ) (xs old rest : List X) (x : X) (ys now : List Y) → old ≡ drop n xs → old ≡ x ∷ rest
-      → now ≡ ys ++ f x ∷ [] → ys ≡ map f (take n xs) → now ≡ map f (take (n + 1) xs)
-  one_noted {Y} f n xs old rest x ys now at is pushed so_far =
-      pushed ∙ ap (λ (l : List Y). l ++ f x ∷ []) so_far ∙ sym (map-append f (take n xs) (x ∷ []))
-      ∙ ap (λ (l : List X). map f l) (sym (one_taken n xs old rest x at is))
-
 mapped : {X : Type 0} (f : X → ℕ) (xs : List X) (k : ℕ) (d : X) → k < length xs → Contains (map f xs) (f (get_or xs k d))
 mapped f xs k d lt = (k, (let e : length (map f xs) ≡ length xs = length-map xs f in omega arith), get_or-map f xs k d (f (get_or xs k d)) lt)
 

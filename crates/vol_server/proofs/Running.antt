@@ -1,5 +1,5 @@
--- A session that ran, by the values that it began and ended with.
-use Rattle.std.proofs.Common.{◌≡◌, subst}
+-- A work that was done, by the values that it began and ended with.
+use Rattle.std.proofs.Common.{◌≡◌, ℕ, Option, subst}
 use Rattle.atomic_table.specs.Seated.{TableId}
 use Rattle.hist_standing.specs.declared.Standing.{Ghosts as StandingGhosts}
 use Rattle.sector_model.specs.declared.entry.Entry.{Entry}
@@ -10,8 +10,8 @@ use Rattle.io_core.specs.State.{State}
 use Rattle.vol_server.specs.Laws.Tasks.{HasRun}
 use Rattle.vol_server.specs.declared.task.Task.{Task}
 
-pub ran_as : {S C I O : Type 0} {st : StandingGhosts (State S C) Entry} (id : TableId) (g : Geometry) (c : C) (source : SourceGhosts I) (sink : SinkGhosts O)
-    (t u v w : Task (State S C) I O Entry st) → t ≡ v → u ≡ w → HasRun id g c source sink t u → HasRun id g c source sink v w
-ran_as {S} {C} {I} {O} {st} id g c source sink t u v w is now ran =
-    subst (λ (x : Task (State S C) I O Entry st). HasRun id g c source sink x w) is
-    (subst (λ (y : Task (State S C) I O Entry st). HasRun id g c source sink t y) now ran)
+pub ran_as : {S C I O : Type 0} {st : StandingGhosts (State S C) Entry} (id : TableId) (g : Geometry) (c : C) (source : SourceGhosts I) (sink : SinkGhosts O) (export : Option ℕ)
+    (t u v w : Task (State S C) I O Entry st) → t ≡ v → u ≡ w → HasRun id g c source sink export t u → HasRun id g c source sink export v w
+ran_as {S} {C} {I} {O} {st} id g c source sink export t u v w is now ran =
+    subst (λ (x : Task (State S C) I O Entry st). HasRun id g c source sink export x w) is
+    (subst (λ (y : Task (State S C) I O Entry st). HasRun id g c source sink export t y) now ran)

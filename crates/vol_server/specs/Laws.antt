@@ -4,3 +4,5 @@
 pub mod Weights
 -- the tasks: once the passes are split, once the sessions have run, once the passes are joined
 pub mod Tasks
+-- the lists of what became of the clients
+pub mod Lists

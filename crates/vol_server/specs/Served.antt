@@ -4,7 +4,7 @@
 -- AreServed ..                            all clients, in order: as clients before and after, ends, counts of replies and
 --                                         numbers; lists of different lengths belong to no clients
 -- size_of g                               how many bytes the volume has
--- Opens export .. hand                    the handshake for an export of so many bytes; without an export there is none,
+-- Greets export .. hand                   the handshake for an export of so many bytes; without an export there is none,
 --                                         nothing is taken or sent, and the session follows as after Go
 -- IsSentAway .. es n how                  a client without a session: it is as its handshake left it, and has no entry
 -- Follows hand .. es n how                what followed a handshake that ended so: a session after Go, and none otherwise
@@ -47,9 +47,9 @@ module _ {I O : Type 0} (source : SourceGhosts I) (sink : SinkGhosts O) (sector 
 abbrev pub size_of : Geometry → ℕ
 size_of g = g.sectors * g.sector
 
-abbrev pub Opens : Option ℕ → Option (List ℕ) → Option (List ℕ) → Option (List ℕ) → Option (List ℕ) → HandEnd → Type 0
-Opens None left later held now hand = (later ≡ left) × (now ≡ held) × (hand ≡ Go)
-Opens (Some size) left later held now hand = Shakes size left later held now hand
+abbrev pub Greets : Option ℕ → Option (List ℕ) → Option (List ℕ) → Option (List ℕ) → Option (List ℕ) → HandEnd → Type 0
+Greets None left later held now hand = (later ≡ left) × (now ≡ held) × (hand ≡ Go)
+Greets (Some size) left later held now hand = Shakes size left later held now hand
 
 pub record IsSentAway (left later held now : Option (List ℕ)) (es : List Entry) (n : ℕ) (how : End) : Type 0 where
   pub source : later ≡ left
@@ -67,7 +67,7 @@ module _ {I O : Type 0} (source : SourceGhosts I) (sink : SinkGhosts O) (export 
     -- what the handshake left of the source, and what the sink held then
     pub rest : Option (List ℕ)
     pub held : Option (List ℕ)
-    pub opened : Opens export (source.left before.source) rest (sink.contents before.sink) held hand
+    pub greeted : Greets export (source.left before.source) rest (sink.contents before.sink) held hand
     pub followed : Follows hand sector rest (source.left after.source) held (sink.contents after.sink) es n how
     pub read_fault : HasCause (source.faults before.source) (source.faults after.source)
         ((hand ≡ ReadFault) ⊎ (how ≡ end.ReadFault))

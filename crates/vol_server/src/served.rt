@@ -1,6 +1,9 @@
 //! What a server leaves of its clients.
-ghost use Rattle.std.specs.Prelude.{◌≡◌, ◌≤◌, [], vec_capacity, IfOk};
+ghost use Rattle.std.specs.Prelude.{◌≡◌, ◌≤◌, ◌+◌, ℕ, [], vec_capacity, IfOk};
+ghost use Rattle.vol_server.specs.Laws.Lists.{AreEmpty, AreNext, HaveRoom};
 
+use crate::task::{Service, Work};
+use nbd_hand::HandEnd;
 use nbd_wire::End;
 use std::alloc::{AllocError, Global};
 use vc_outside::Client;
@@ -18,36 +21,75 @@ pub struct Served<I, O> {
     pub clients: Vec<Client<I, O>>,
 }
 
-impl<I, O> Served<I, O> {
+/// The lists of what became of the clients, and of how their handshakes ended.
+pub(crate) struct Lists<I, O> {
+    pub(crate) served: Served<I, O>,
+    pub(crate) hands: Vec<HandEnd>,
+}
+
+impl<I, O> Lists<I, O> {
     // Empty lists with room for so many clients.
-    pub(crate) fn with_room(alloc: Global, count: usize) -> Result<Served<I, O>, AllocError>
-        ensures empty { IfOk result (λ s. (s.ends.items ≡ []) × (s.replies.items ≡ []) × (s.callers.items ≡ [])
-            × (s.clients.items ≡ [])) }
-        ensures room { IfOk result (λ s. (count ≤ vec_capacity s.ends) × (count ≤ vec_capacity s.replies)
-            × (count ≤ vec_capacity s.callers) × (count ≤ vec_capacity s.clients)) }
+    pub(crate) fn with_room(alloc: Global, count: usize) -> Result<Lists<I, O>, AllocError>
+        ensures empty { IfOk result AreEmpty }
+        ensures room { IfOk result (HaveRoom count) }
     {
         let ends = Vec::with_capacity(alloc, count)?;
         let replies = Vec::with_capacity(alloc, count)?;
         let callers = Vec::with_capacity(alloc, count)?;
+        let hands = Vec::with_capacity(alloc, count)?;
         let clients = Vec::with_capacity(alloc, count)?;
-        Ok(Served {
+        let served = Served {
             ends,
             replies,
             callers,
             clients,
-        })
+        };
+        Ok(Lists { served, hands })
+    }
+
+    // Lists the client of this work, if it has one, and its number.
+    pub(crate) fn list(&mut self, work: Work<I, O>, caller: u64)
+        requires room { HaveRoom 1 self.old }
+        ensures next { AreNext self.old self.new work caller }
+        ensures room { (k : ℕ) → HaveRoom (k + 1) self.old → HaveRoom k self.new }
+    {
+        match work {
+            Work::Serve(service) => self.list_service(service, caller),
+            Work::Help(_helper) => {}
+        }
+    }
+
+    // Lists a client and its number.
+    fn list_service(&mut self, service: Service<I, O>, caller: u64)
+        requires room { HaveRoom 1 self.old }
+        ensures next { AreNext self.old self.new (Work.Serve service) caller }
+        ensures room { (k : ℕ) → HaveRoom (k + 1) self.old → HaveRoom k self.new }
+    {
+        let Service {
+            bench: _,
+            client,
+            hand,
+            end,
+            replies,
+        } = service;
+        self.served.ends.push_reserved(end);
+        self.served.replies.push_reserved(replies);
+        self.served.callers.push_reserved(caller);
+        self.served.clients.push_reserved(client);
+        self.hands.push_reserved(hand);
     }
 
     // Frees the lists.
     pub(crate) fn destroy_empty(self)
-        requires { self.clients.items ≡ [] }
+        requires { AreEmpty self }
     {
+        let Lists { served, hands: _ } = self;
         let Served {
             ends: _,
             replies: _,
             callers: _,
             clients,
-        } = self;
+        } = served;
         clients.destroy_empty();
     }
 }

@@ -4,6 +4,9 @@ ghost use Rattle.hist_lock.specs.Known.{view};
 ghost use Rattle.io_queue.specs.Pass.{IsPass, NothingOpen};
 ghost use Rattle.sector_view.specs.Laws.Turned.{is_block_turned, turned_back};
 
+mod greeted;
+mod helped;
+
 use crate::serve;
 use cipher_base::{BlockCipher, Xts};
 use io_queue::Volume;
@@ -69,8 +72,7 @@ struct Plan {
 }
 
 // The requests of a client, with the cookies 1, 2 and 3.
-fn client_of(alloc: Global, plan: Plan) -> Result<Client<MemSource, SureSink>, AllocError> {
-    let mut bytes = Vec::new(alloc);
+fn ask(bytes: &mut Vec<u8>, plan: Plan) -> Result<(), AllocError> {
     for (head, cookie, first, length) in [
         (WRITE, 1, plan.first, 4),
         (READ, 2, plan.then, 2),
@@ -81,9 +83,16 @@ fn client_of(alloc: Global, plan: Plan) -> Result<Client<MemSource, SureSink>, A
         bytes.extend_from_slice(&[0, 0, 0, 0, 0, 0, 2 * (first & 63), 0])?;
         bytes.extend_from_slice(&[0, 0, length, 0])?;
         if length == 4 {
-            bytes.resize(28 + 1024, plan.byte)?;
+            let len = bytes.len();
+            bytes.resize(len + 1024, plan.byte)?;
         }
     }
+    Ok(())
+}
+
+fn client_of(alloc: Global, plan: Plan) -> Result<Client<MemSource, SureSink>, AllocError> {
+    let mut bytes = Vec::new(alloc);
+    ask(&mut bytes, plan)?;
     Ok(Client {
         source: MemSource::new(bytes, 100, Vec::from_slice(alloc, &[plan.fails])?),
         sink: SureSink::new(alloc),

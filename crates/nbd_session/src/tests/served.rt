@@ -1,10 +1,12 @@
 //! Sessions over volumes in memory. Each value is by hand from the tables of `docs/PROTOCOL.md`.
-ghost use Rattle.std.specs.Prelude.{◌≡◌, ◌≤◌, refl};
+ghost use Rattle.std.specs.Prelude.{◌≡◌, ◌≤◌, refl, true, IfOk};
+ghost use Rattle.frag_pool.specs.Bench.{is_empty};
 ghost use Rattle.io_core.specs.State.{IsPlaced};
 
 use super::WRITE;
 use crate::session;
 use cipher_base::{BlockCipher, Xts};
+use frag_pool::{Bench, Pool};
 use io_queue::Volume;
 use nbd_wire::End;
 use std::alloc::{AllocError, Global};
@@ -92,6 +94,19 @@ struct Served {
     link: Client<MemSource, MemSink>,
 }
 
+// An empty bench, of a pool without helpers.
+fn bench_of(alloc: Global) -> Result<Bench, NoMemory>
+    ensures { IfOk result (λ b. is_empty b ≡ true) }
+{
+    let Ok((mut benches, _helpers)) = Pool::new(alloc, 1, 0) else {
+        return Err(NoMemory);
+    };
+    let Some(bench) = benches.pop() else {
+        return Err(NoMemory);
+    };
+    Ok(bench)
+}
+
 // Serves these bytes, of which a call gives at most `cut`.
 fn serve<R: Threads + Wait + Sync>(
     rt: &R,
@@ -116,7 +131,10 @@ fn serve<R: Threads + Wait + Sync>(
     else {
         return Err(NoMemory);
     };
-    let (end, count) = session(rt, alloc, &volume, &mut pass, &NoGate, &mut link);
+    let mut bench = bench_of(alloc)?;
+    let (end, count) = session(
+        rt, alloc, &volume, &mut pass, &mut bench, &NoGate, &mut link,
+    );
     Ok(Served { end, count, link })
 }
 

@@ -8,6 +8,7 @@ pub requests-init : goal.requests-init
 requests-init g c = record {
   pass = c.requires.pass;
   nothing = c.requires.open;
+  bench = c.requires.bench;
   did = did_none c.args.volume.now.geometry.sector (view c.args.pass.now.seat) (g.I.Source.left c.args.link.now.source)
       (g.O.Sink.contents c.args.link.now.sink);
   read = omega arith;
@@ -18,6 +19,7 @@ pub requests-preserved : goal.requests-preserved
 requests-preserved g c = record {
   pass = c.serve_next.ensures.pass;
   nothing = c.serve_next.ensures.open;
+  bench = c.serve_next.ensures.bench;
   did = did_more c.args.volume.now.geometry.sector (view c.args.pass.now.seat) (view c.requests.pass.seat) (view c.serve_next.new.pass.seat)
       (g.I.Source.left c.args.link.now.source) (g.I.Source.left c.requests.link.source) (g.I.Source.left c.serve_next.new.link.source)
       (g.O.Sink.contents c.args.link.now.sink) (g.O.Sink.contents c.requests.link.sink) (g.O.Sink.contents c.serve_next.new.link.sink)

@@ -1,19 +1,19 @@
--- The clients so far have their passes, and the others wait.
+-- The works so far have their passes, and the others wait.
 use Rattle.std.proofs.Common.{◌≡◌, ◌+◌, ◌≤◌, ◌++◌, length, map, vec_capacity}
 use Rattle.std.specs.Vec.Iter.{into_iter_items, into_iter_len}
 use Rattle.hist_lock.specs.Known.{view}
 use Rattle.io_queue.specs.Pass.{IsPass, NothingOpen}
-use Rattle.vol_server.specs.Laws.Tasks.{HasSplit, client_of}
+use Rattle.vol_server.specs.Laws.Tasks.{HasSplit, work_of}
 use Rattle.vol_server.proofs.split.split_all.Given as goal
 
-abbrev pub invariant-clients : goal.invariant-clients
-invariant-clients g l = record {
+abbrev pub invariant-works : goal.invariant-works
+invariant-works g l = record {
   pass : IsPass l.volume.lock.table.shared.table_id l.volume.geometry l.volume.cipher l.pass.seat;
   nothing : NothingOpen (view l.pass.seat);
   split : HasSplit l.volume.lock.table.shared.table_id l.volume.geometry l.volume.cipher (view l.fn.pass.seat) (view l.pass.seat) l.tasks.items;
-  clients : map client_of l.tasks.items ++ into_iter_items l.waiting ≡ l.fn.clients.items;
+  works : map work_of l.tasks.items ++ into_iter_items l.waiting ≡ l.fn.works.items;
   left : into_iter_len l.waiting + l.n ≡ l.count;
-  count : l.count ≡ length l.fn.clients.items;
+  count : l.count ≡ length l.fn.works.items;
   made : length l.tasks.items ≡ l.n;
-  room : length l.fn.clients.items ≤ vec_capacity l.tasks;
+  room : length l.fn.works.items ≤ vec_capacity l.tasks;
 }
