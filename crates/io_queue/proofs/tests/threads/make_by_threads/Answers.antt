@@ -1,7 +1,8 @@
 -- The clients' passes are idle: each joins the list so, and is so when it is taken from it.
-use Rattle.std.proofs.Common.{◌≡◌, List, ◌++◌, Option, Some, IfSome, All, subst}
+use Rattle.std.proofs.Common.{◌≡◌, List, ◌++◌, Option, Some, IfSome, true, All, subst}
 use Rattle.std.specs.Option.{option_to_list}
 use Rattle.std.proofs.lemmas.List.Elements.{All-same, All-pop, All-push}
+use Rattle.frag_pool.specs.Bench.{is_empty}
 use Rattle.io_queue.specs.Laws.Idle.{IsIdle}
 use Rattle.io_queue.specs.declared.tests.threads.Client.{Client}
 use Rattle.io_queue.proofs.tests.threads.make_by_threads.Goals as goal
@@ -13,12 +14,13 @@ of_last P xs ys r x is some all = subst (λ o. IfSome o P) some (All-pop P xs ys
 
 pub loop-requests-preserved : goal.loop-requests-preserved
 loop-requests-preserved g c =
-    let P : Client → Type 0 = λ t. IsIdle c.args.volume.now.lock.table.shared.table_id c.args.volume.now.geometry c.args.volume.now.cipher t.pass.seat in
+    let P : Client → Type 0 = λ t. IsIdle c.args.volume.now.lock.table.shared.table_id c.args.volume.now.geometry c.args.volume.now.cipher t.pass.seat
+        × (is_empty t.bench ≡ true) in
     let made = c.new_client-client.ensures in (
       made.pass,
       made.open,
       All-same P _ _ c.push_reserved.ensures.items
-          (All-push P _ _ (All-same P _ _ c.reserve.ensures.items c.loop-requests.invariant.2) made.idle),
+          (All-push P _ _ (All-same P _ _ c.reserve.ensures.items c.loop-requests.invariant.2) (made.idle, made.empty)),
     )
 
 pub join-requires-clause-other : goal.join-requires-clause-other
