@@ -56,17 +56,24 @@ class Volume:
         begin, (first, end) = self.start + offset, self.protected
         return begin < end and first < begin + length
 
-    def answer(self, flags, kind, offset, length, payload):
-        """The error and the data with which a request is replied to."""
+    def refusal(self, flags, kind, offset, length):
+        """The error of a request that no volume of this size does, whatever was done before it; 0 for any other."""
         if flags & ~FUA:
-            return INVALID, b""
+            return INVALID
         if kind == FLUSH:
-            return 0, b""
+            return 0
         is_whole = 0 < length <= LONGEST and length % self.sector == 0 and offset % self.sector == 0
         if kind not in (READ, WRITE) or not is_whole:
-            return INVALID, b""
+            return INVALID
         if offset + length > self.size:
-            return (INVALID if kind == READ else NO_SPACE), b""
+            return INVALID if kind == READ else NO_SPACE
+        return 0
+
+    def answer(self, flags, kind, offset, length, payload):
+        """The error and the data with which a request is replied to."""
+        error = self.refusal(flags, kind, offset, length)
+        if error or kind == FLUSH:
+            return error, b""
         if kind == READ:
             return 0, self.read(offset, length)
         if self.is_frozen or self.touches(offset, length):
@@ -76,30 +83,40 @@ class Volume:
         return 0, b""
 
 
-def session(volume, given):
-    """What a client that sends these bytes gets: the replies, how it ends, their number, and four bytes that aren't
-    the magic."""
-    at, replies = 0, []
+def frames(given):
+    """The requests of these bytes, each with its flags, kind, cookie, offset, length and payload; then how they end,
+    and four bytes that aren't the magic."""
+    at, requests = 0, []
     while True:
         taken = given[at:at + 28]
         if not taken:
-            return replies, "done", len(replies), None
+            return requests, "done", None
         if len(taken) >= 4 and taken[:4] != REQUEST_MAGIC:
-            return replies, "magic", len(replies), taken[:4]
+            return requests, "magic", taken[:4]
         if len(taken) < 28:
-            return replies, "cut", len(replies), None
+            return requests, "cut", None
         flags, kind, cookie, offset, length = struct.unpack(">HHQQI", taken[4:])
         at += 28
         if kind == DISCONNECT:
-            return replies, "done", len(replies), None
+            return requests, "done", None
         payload = b""
         if kind == WRITE:
             payload = given[at:at + length]
             at += length
             if len(payload) < length:
-                return replies, "cut", len(replies), None
+                return requests, "cut", None
+        requests.append((flags, kind, cookie, offset, length, payload))
+
+
+def session(volume, given):
+    """What a client that sends these bytes gets: the replies, how it ends, their number, and four bytes that aren't
+    the magic."""
+    requests, how, magic = frames(given)
+    replies = []
+    for flags, kind, cookie, offset, length, payload in requests:
         error, data = volume.answer(flags, kind, offset, length, payload)
         replies.append(reply(error, cookie, data))
+    return replies, how, len(replies), magic
 
 
 class Case:
