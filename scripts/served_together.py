@@ -4,6 +4,7 @@ import random
 import subprocess
 import tempfile
 import threading
+import time
 
 from check_hidden import write
 from program_rows import LIMIT, LINES
@@ -13,16 +14,67 @@ from served_model import FLUSH, FUA, READ, WRITE, Volume, case_of, head, reply, 
 MOST_CLIENTS = 16
 
 
+class Endless:
+    """The bytes of a client, and a piece that follows again and again for as long as the server takes it. After so
+    many bytes of it the server is to have ended the session."""
+
+    def __init__(self, given, piece, enough):
+        self.given, self.piece, self.enough = given, piece, enough
+
+    def taken(self):
+        """What a server needs to see of it."""
+        return self.given + self.piece * (1 + self.enough // len(self.piece))
+
+    def feed(self, pipe, has_ended):
+        """Sends all to a named pipe, once the server has opened it."""
+        while not has_ended.is_set():
+            try:
+                to = os.open(pipe, os.O_WRONLY | os.O_NONBLOCK)
+                break
+            except OSError:
+                time.sleep(0.001)
+        else:
+            return
+        os.set_blocking(to, True)
+        try:
+            left = memoryview(self.given)
+            while True:
+                left = left[os.write(to, left):] if left else memoryview(self.piece)
+        except OSError:
+            os.close(to)
+
+
 def serve_all(program, folder, case, inputs, *more):
-    """Serves clients that have these bytes in files: the run, the replies of each, and the container."""
+    """Serves clients that have these bytes in files, or endless ones at named pipes: the run, the replies of each, and
+    the container. The run has the most memory that it took, in KiB, or that this process had when it began it if
+    that is more."""
     with tempfile.TemporaryDirectory(dir=folder) as own:
         path = os.path.join(own, "c.vc")
         write(path, case.image)
         files = [os.path.join(own, f"{name}{number}") for number in range(len(inputs)) for name in ("in", "out")]
+        has_ended, feeders = threading.Event(), []
         for file, given in zip(files[::2], inputs):
-            write(file, given)
-        run = subprocess.run([program, *serve_words(path, [*case.words, *more], *files)], capture_output=True,
-                             stdin=subprocess.DEVNULL, timeout=LIMIT)
+            if isinstance(given, Endless):
+                os.mkfifo(file)
+                feeders.append(threading.Thread(target=given.feed, args=(file, has_ended)))
+            else:
+                write(file, given)
+        run = subprocess.Popen([program, *serve_words(path, [*case.words, *more], *files)], stdin=subprocess.DEVNULL,
+                               stdout=subprocess.PIPE, stderr=subprocess.PIPE)
+        watch = threading.Timer(LIMIT, run.kill)
+        for thread in [watch, *feeders]:
+            thread.start()
+        out, line = run.stdout.read(), run.stderr.read()
+        _, status, usage = os.wait4(run.pid, 0)
+        run.returncode = os.waitstatus_to_exitcode(status)
+        has_ended.set()
+        watch.cancel()
+        for thread in feeders:
+            thread.join()
+        run.stdout.close()
+        run.stderr.close()
+        done = subprocess.CompletedProcess(run.args, run.returncode, out, line)
+        done.most_memory = usage.ru_maxrss
         replies = []
         for file in files[1::2]:
             replies.append(b"")
@@ -30,7 +82,7 @@ def serve_all(program, folder, case, inputs, *more):
                 with open(file, "rb") as got:
                     replies[-1] = got.read()
         with open(path, "rb") as file:
-            return run, replies, file.read()
+            return done, replies, file.read()
 
 
 def differences_of_all(found, ends, replies, image):
