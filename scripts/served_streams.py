@@ -204,7 +204,7 @@ def hostile(rows, folder, times):
     while left and link.put(piece[:left]):
         left -= min(left, 1 << 20)
     got = link.ask(head(READ, 0, 512, 2), 32 + 512)
-    memory = most_memory(link)
+    memory = most_memory(link.run.pid)
     done, rest, image = link.end()
     faults = differences_of_replies(got + rest, reply(22, 1) + reply(0, 2, case.volume().read(0, 512)))
     faults += differences_at_link(link, done, "done", 2) + ([] if image == case.image else ["the container differs"])
@@ -226,9 +226,9 @@ def hostile(rows, folder, times):
             rows.note(name, faults)
 
 
-def most_memory(link):
+def most_memory(pid):
     """The most memory that the program has had, in KiB."""
-    with open(f"/proc/{link.run.pid}/status") as file:
+    with open(f"/proc/{pid}/status") as file:
         for line in file:
             if line.startswith("VmHWM:"):
                 return int(line.split()[1])
@@ -256,7 +256,7 @@ def large_requests(rows, folder):
         if number == 0:
             # what the next write leaves of it
             volume.write(0, data[:1 << 20])
-    memory = most_memory(link)
+    memory = most_memory(link.run.pid)
     done, rest, image = link.end()
     faults += differences_at_link(link, done, "done", 12) + differences_of_replies(rest, b"")
     faults += [] if image == bytes(volume.image) else ["the container differs"]
