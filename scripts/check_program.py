@@ -6,14 +6,15 @@
 PROGRAM defaults to crates/vcserve/out/vcserve. It is not built here: `rt run` in crates/vcserve
 builds it (README.md). Each row runs it once and compares the exit status, the
 standard output, the standard error and the container after it: the same bytes as before, or those
-that the command has to leave (check_format.py, check_hidden.py, check_change.py, check_expand.py). Clients of `serve` are
-those of check_serve.py. Secrets in files and a person's terminal are tried by check_secrets.py and check_terminal.py. A row
+that the command has to leave (check_format.py, check_hidden.py, check_damage.py, check_change.py, check_expand.py). Clients
+of `serve` are those of check_serve.py. Secrets in files and a person's terminal are tried by check_secrets.py and check_terminal.py. A row
 that is wrong is printed; the last line counts them. What can't be tried on this machine is printed too.
 
 The status is 1 if a row is wrong. Otherwise it is 77 if the package `cryptography` is missing,
 which all rows need, or libgcrypt, which those with Serpent and Twofish need.
 """
 import os
+import random
 import shutil
 import subprocess
 import sys
@@ -21,6 +22,7 @@ import tempfile
 import time
 
 import check_change
+import check_damage
 import check_expand
 import check_format
 import check_hidden
@@ -434,6 +436,7 @@ def main(words):
         made_containers(rows, folder)
         check_format.check(rows, small, folder)
         check_hidden.check(rows, folder)
+        check_damage.check(rows, folder, check_damage.one_of_each_block(random.Random(1)))
         check_change.check(rows, folder)
         check_expand.check(rows, folder)
         check_serve.check(rows, folder)
