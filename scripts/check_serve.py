@@ -5,7 +5,8 @@
 
 runs these rows alone, with --quick fewer random sessions. PROGRAM defaults to crates/vcserve/out/vcserve. Replies and
 containers are compared with those of served_model.py, to the byte. Those of the worked rows are by hand. The other
-clients are in served_streams.py, and several at a time in served_together.py.
+clients are in served_streams.py, several at a time in served_together.py, and those that begin with a handshake in
+served_handshake.py. A few programs of check_histories.py and a few streams of fuzz_serve.py run too.
 """
 import os
 import shutil
@@ -13,6 +14,9 @@ import subprocess
 import sys
 import tempfile
 
+import check_histories
+import fuzz_serve
+import served_handshake
 import served_streams
 import served_together
 from check_hidden import HIDDEN_KEY, HIDDEN_PASSWORD, OUTER_KEY, write
@@ -269,6 +273,9 @@ def check(rows, folder, times=1000):
     faults_of_the_container(rows, folder)
     served_together.check(rows, folder, times // 50)
     served_streams.check(rows, folder, times)
+    served_handshake.check(rows, folder, times // 20)
+    check_histories.check(rows, folder, times // 20, times // 100, 0, os.cpu_count())
+    fuzz_serve.check(rows, folder, range(times // 20), served_together.MOST_CLIENTS, os.cpu_count())
 
 
 def main(words):
