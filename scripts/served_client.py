@@ -151,7 +151,7 @@ class Pair:
 class Link:
     """A run of the program whose clients are at named pipes, or whose only one is at the standard input and output."""
 
-    def __init__(self, program, folder, case, is_named, *more, clients=1):
+    def __init__(self, program, folder, case, is_named, *more, clients=1, environment=None):
         self.own = tempfile.TemporaryDirectory(dir=folder)
         self.path = os.path.join(self.own.name, "c.vc")
         write(self.path, case.image)
@@ -164,7 +164,8 @@ class Link:
             files = ["-", "-"]
         words = serve_words(self.path, [*case.words, *more], *files)
         self.run = subprocess.Popen([program, *words], stdin=subprocess.DEVNULL if is_named else subprocess.PIPE,
-                                    stdout=subprocess.PIPE, stderr=subprocess.PIPE)
+                                    stdout=subprocess.PIPE, stderr=subprocess.PIPE,
+                                    env={**os.environ, **(environment or {})})
         self.watch = threading.Timer(LIMIT, self.run.kill)
         self.watch.start()
         if is_named:
