@@ -5,12 +5,19 @@
 ghost use Rattle.std.specs.Prelude.{◌≡◌};
 
 mod cat;
+mod damage;
 mod faults;
 mod format;
 mod hide;
 mod misses;
 mod serve;
+mod serve_faults;
+mod serve_gates;
 mod serve_hand;
+mod serve_protected;
+mod serve_refused;
+mod serve_requests;
+mod serving;
 mod stops;
 
 use crate::{Status, run_plain};
@@ -24,6 +31,11 @@ static HIDDEN_KEY: &str = "202122232425262728292a2b2c2d2e2f303132333435363738393
 
 // Makes the smallest container, whose volume has one sector.
 static FORMAT: &str = "format|c1.vc|--size|262656|--password|correct horse|--random|@|--pim|1";
+
+// Make a container of 1 MiB, and give it a hidden volume of 512 sectors.
+static MIB: &str = "format|c1.vc|--size|1048576|--password|correct horse|--random|@|--pim|1";
+
+static HIDE: &str = "hide|c1.vc|--size|262144|--password|hidden horse|--random|#|--pim|1";
 
 static INFO: &str = "info|c1.vc|--password|correct horse|--pim|1";
 

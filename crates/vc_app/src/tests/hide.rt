@@ -1,13 +1,9 @@
 //! `hide`, sectors of other sizes, and which header opens then.
-use super::{FORMAT, column, number, run};
+use super::{FORMAT, HIDE, MIB, column, number, run};
 use crate::Status;
 use std::alloc::Global;
 use std::test::Fail;
 use vc_outside::{MemStore, SureStore};
-
-static MIB: &str = "format|c1.vc|--size|1048576|--password|correct horse|--random|@|--pim|1";
-
-static HIDE: &str = "hide|c1.vc|--size|262144|--password|hidden horse|--random|#|--pim|1";
 
 // By hand: the volume's last byte is the last before the backup headers.
 static HIDDEN_TEXT: &str =

@@ -125,6 +125,8 @@ pub(crate) enum Way {
     Full(usize),
     // The write with this number fails.
     Fails(u64),
+    // The same, and each other write takes at most so many bytes of its piece.
+    PiecesFail(usize, u64),
     // The write with this number is out of memory.
     NoMemory(u64),
     // All, and a fault is counted at each write.
@@ -166,7 +168,7 @@ impl SlowSink {
     // Why the write is refused.
     fn refusal(&self) -> Option<OutError> {
         match self.way {
-            Way::Fails(at) if at == self.writes => Some(OutError::Failed),
+            Way::Fails(at) | Way::PiecesFail(_, at) if at == self.writes => Some(OutError::Failed),
             Way::NoMemory(at) | Way::RecoversThenNoMemory(at) if at == self.writes => {
                 Some(OutError::NoMemory)
             }
@@ -179,7 +181,7 @@ impl SlowSink {
         ensures { result ≤ length }
     {
         match self.way {
-            Way::Pieces(most) => most.min(length),
+            Way::Pieces(most) | Way::PiecesFail(most, _) => most.min(length),
             Way::Full(all) => all.saturating_sub(self.taken.len()).min(length),
             Way::Fails(_) | Way::NoMemory(_) | Way::Recovers | Way::RecoversThenNoMemory(_) =>
                 length,
