@@ -38,7 +38,6 @@ use Rattle.vc_app.specs.declared.serve.asked.Asked.{Asked}
 use Rattle.vc_app.specs.declared.status.Status.{Status}
 use Rattle.vc_app.specs.declared.status.Status.TheVariants.{Done, Usage, NoHeader, NoHidden, Length, BadSize, DiskFault, OutFault, NoMemory, ClientCut, ClientMagic, ClientFault, ClientHand}
 use Rattle.vc_app.specs.Access.{opened}
-use Rattle.vc_app.specs.Promise.{Seen}
 use Rattle.vol_server.specs.Served.{AreGreeted, Follows, IsGreeted}
 use Rattle.vc_app.specs.Serve.{AllServed, AreQuiet, AreRequests, AreWhole, Call, end_status, ends_status, export_of, IsComplete, IsOpening, IsQuiet, IsWholeHand, IsWholeInput, Kept, Opens, or_later, Protects, Refuses, Served, session_status}
 

@@ -3,7 +3,7 @@
 -- IsFirst v              the pass is the first of its volume, which has no history yet
 -- RanFrom u v c          the volume was served from the pass u on, and closed with the pass v
 -- Opening ..             the volume of an opened header was served, or there was no memory to open it
-use Rattle.std.specs.Prelude.{◌≡◌, ◌≤◌, ◌⊎◌, ℕ, Bool, List, [], Option, Some, MatchOption}
+use Rattle.std.specs.Prelude.{◌≡◌, ◌⊎◌, ℕ, Bool, List, [], Option, Some, MatchOption}
 use Rattle.vc_base.specs.Faults.{Rose}
 use Rattle.vc_header.specs.Volume.{IsVolume}
 use Rattle.vc_outside.specs.declared.store.Store.{Ghosts as StoreGhosts}

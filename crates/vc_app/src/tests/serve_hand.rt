@@ -1,6 +1,4 @@
 //! `serve --handshake` over a container in memory. What its clients send and get is by hand from `docs/PROTOCOL.md`.
-ghost use Rattle.std.specs.Prelude.{◌≡◌, ◌≤◌};
-
 use super::{arguments_of, run};
 use crate::{ServeEnd, Status, run_serve};
 use nbd_hand::Refusal;
@@ -94,43 +92,33 @@ const MAGIC: Talk = (
     0,
 );
 
-// The clients, the status, and the lines.
-const ROWS: &[(&str, &[Talk], Status, &str)] = &[
-    ("a read", &[READS], Status::Done, "client 0 done 1\n"),
-    ("an abort", &[ABORTS], Status::Done, "client 0 aborted 0\n"),
+// The clients, how many bytes their sources give at most at a time, the status, and the lines.
+const ROWS: &[(&str, &[Talk], usize, Status, &str)] = &[
     (
-        "an export's name",
-        &[NAMES],
+        "all end well",
+        &[READS, ABORTS, NAMES],
+        1,
         Status::Done,
-        "client 0 done 0\n",
-    ),
-    (
-        "unknown flags",
-        &[REFUSED],
-        Status::ClientHand(0, Refusal::Flags(4)),
-        "client 0 refused 0\n",
+        "client 0 done 1\nclient 1 aborted 0\nclient 2 done 0\n",
     ),
     (
         "the second is refused",
         &[READS, REFUSED, CUT],
+        usize::MAX,
         Status::ClientHand(1, Refusal::Flags(4)),
         "client 0 done 1\nclient 1 refused 0\nclient 2 cut 0\n",
     ),
     (
-        "one is cut after an abort",
-        &[ABORTS, CUT, REFUSED],
+        "the second is cut in an option",
+        &[ABORTS, CUT_OPTION, MAGIC, REFUSED],
+        1,
         Status::ClientCut(1),
-        "client 0 aborted 0\nclient 1 cut 0\nclient 2 refused 0\n",
+        "client 0 aborted 0\nclient 1 cut 0\nclient 2 magic 0\nclient 3 refused 0\n",
     ),
     (
-        "one is cut in an option",
-        &[NAMES, CUT_OPTION, MAGIC],
-        Status::ClientCut(1),
-        "client 0 done 0\nclient 1 cut 0\nclient 2 magic 0\n",
-    ),
-    (
-        "a session's bad magic",
+        "the first has a bad magic",
         &[MAGIC, REFUSED],
+        usize::MAX,
         Status::ClientMagic(0, *b"GET "),
         "client 0 magic 0\nclient 1 refused 0\n",
     ),
@@ -150,15 +138,13 @@ fn serve<R: Threads + Wait + Sync + AllocGlobal>(
     image: &[u8],
     talks: &[Talk],
     cut: usize,
-) -> Result<(Status, SureSink, Vec<Client<MemSource, SureSink>>), AllocError>
-    requires { 1 ≤ cut }
-{
+) -> Result<(Status, SureSink, Vec<Client<MemSource, SureSink>>), AllocError> {
     let alloc = rt.alloc();
     let arguments = arguments_of(alloc, SERVE)?;
     let mut clients = Vec::new(alloc);
     for (sent, _, _) in talks {
         clients.push(Client {
-            source: MemSource::new(joined(alloc, sent)?, cut, Vec::new(alloc)),
+            source: MemSource::new(joined(alloc, sent)?, cut.max(1), Vec::new(alloc)),
             sink: SureSink::new(alloc),
         })?;
     }
@@ -183,18 +169,16 @@ fn a_handshake_comes_before_the_session(rt: HostRuntime) -> Result<(), Fail> {
     let (_status, disk, _out) = run(&rt, FORMAT, SureStore::new(Vec::new(rt.alloc())))?;
     let image = Vec::from_slice(rt.alloc(), disk.bytes())?;
     let (_status, _disk, sector) = run(&rt, CAT, disk)?;
-    for (case, talks, status, lines) in ROWS {
-        for cut in [1, usize::MAX] {
-            let (ended, out, clients) = serve(&rt, image.as_slice(), talks, cut)?;
-            assert_eq!(rt; ended, *status, "{case}");
-            assert_eq!(rt; out.bytes(), lines.as_bytes(), "{case}");
-            for (client, (_, got, reads)) in clients.iter().zip(*talks) {
-                let mut wanted = joined(rt.alloc(), got)?;
-                for _ in 0..*reads {
-                    wanted.extend_from_slice(sector.bytes())?;
-                }
-                assert_eq!(rt; client.sink.bytes(), wanted.as_slice(), "{case}");
+    for (case, talks, cut, status, lines) in ROWS {
+        let (ended, out, clients) = serve(&rt, image.as_slice(), talks, *cut)?;
+        assert_eq!(rt; ended, *status, "{case}");
+        assert_eq!(rt; out.bytes(), lines.as_bytes(), "{case}");
+        for (client, (_, got, reads)) in clients.iter().zip(*talks) {
+            let mut wanted = joined(rt.alloc(), got)?;
+            for _ in 0..*reads {
+                wanted.extend_from_slice(sector.bytes())?;
             }
+            assert_eq!(rt; client.sink.bytes(), wanted.as_slice(), "{case}");
         }
     }
     Ok(())
