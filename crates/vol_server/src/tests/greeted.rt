@@ -168,7 +168,6 @@ fn greeted<R: AllocGlobal + Abort + Threads + Wait + Sync>(
     else {
         return Err("no memory".into());
     };
-    assert_eq!(rt; served.clients.len(), 2);
     let mut bytes = [0u8; 2048];
     let read = volume.read(rt, &mut pass, 0, &mut bytes);
     assert_eq!(rt; read, Ok(()));
@@ -195,6 +194,7 @@ fn expect_sent<R: AllocGlobal + Abort>(
 fn a_session_follows_a_handshake_that_ends_so(rt: HostRuntime) -> Result<(), Fail> {
     for helpers in [0, 1, 2, 3] {
         let (served, hands, bytes) = greeted(&rt, &GOES, &GOES, helpers)?;
+        assert_eq!(rt; served.clients.len(), 2);
         assert_eq!(rt; hands.as_slice(), [HandEnd::Go, HandEnd::Go].as_slice());
         assert_eq!(rt; served.ends.as_slice(), [End::Done, End::Done].as_slice());
         assert_eq!(rt; served.replies.as_slice(), [2, 2].as_slice());
@@ -214,6 +214,7 @@ fn a_session_follows_a_handshake_that_ends_so(rt: HostRuntime) -> Result<(), Fai
 fn no_session_follows_another_end(rt: HostRuntime) -> Result<(), Fail> {
     for case in CASES {
         let (served, hands, bytes) = greeted(&rt, case, &GOES, 1)?;
+        assert_eq!(rt; served.clients.len(), 2);
         assert_eq!(rt;
             hands.as_slice(),
             [case.want, HandEnd::Go].as_slice(),
@@ -279,10 +280,9 @@ fn an_export_has_as_many_bytes_as_its_sectors(rt: HostRuntime) -> Result<(), Fai
         (1, [0].as_slice())
     );
     // behind the greeting, the reply's head and the kind of the information
-    assert_eq!(rt;
-        &served.clients[0].sink.bytes()[40..48],
-        [0, 0, 0, 0, 0, 0, 0x20, 0].as_slice()
-    );
+    let sent = served.clients[0].sink.bytes();
+    assert!(rt; sent.len() >= 48);
+    assert_eq!(rt; &sent[40..48], [0, 0, 0, 0, 0, 0, 0x20, 0].as_slice());
     Ok(())
 }
 
