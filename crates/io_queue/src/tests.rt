@@ -5,7 +5,7 @@ ghost use Rattle.hist_lock.specs.Known.{view};
 ghost use Rattle.sector_view.specs.Laws.Turned.{is_block_turned, turned_back};
 ghost use Rattle.io_queue.specs.Pass.{IsPass, NothingOpen};
 
-
+mod helpers;
 mod histories;
 mod orders;
 mod requests;

@@ -15,7 +15,7 @@ of_last P xs ys r x is some all = subst (λ o. IfSome o P) some (All-pop P xs ys
 pub loop-requests-preserved : goal.loop-requests-preserved
 loop-requests-preserved g c =
     let P : Client → Type 0 = λ t. IsIdle c.args.volume.now.lock.table.shared.table_id c.args.volume.now.geometry c.args.volume.now.cipher t.pass.seat
-        × (is_empty t.bench ≡ true) in
+    × (is_empty t.bench ≡ true) in
     let made = c.new_client-client.ensures in (
       made.pass,
       made.open,

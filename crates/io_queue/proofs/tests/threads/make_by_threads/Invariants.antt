@@ -10,7 +10,7 @@ abbrev pub invariant-loop-requests : goal.invariant-loop-requests
 invariant-loop-requests g l = IsPass l.volume.lock.table.shared.table_id l.volume.geometry l.volume.cipher l.pass.seat
     × NothingOpen (view l.pass.seat)
     × All (λ c. IsIdle l.volume.lock.table.shared.table_id l.volume.geometry l.volume.cipher c.pass.seat
-      × (is_empty c.bench ≡ true)) l.clients.items
+    × (is_empty c.bench ≡ true)) l.clients.items
 
 abbrev pub invariant-loop-client : goal.invariant-loop-client
 invariant-loop-client g l = IsPass l.volume.lock.table.shared.table_id l.volume.geometry l.volume.cipher l.pass.seat
