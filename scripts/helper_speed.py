@@ -10,7 +10,7 @@ wake      writes of four fragments at an idle server with one helper: the time f
           it runs, whose median has to be at most 100 microseconds. A small library that is loaded before the C library
           notes the times. Beside it the median time of such a write, with one helper and with none
 idle      processor time of a server with 8 helpers whose client asks nothing for 3 seconds: less than 1 % of one processor
-readers   four clients that read 1 MiB at a time, against one
+readers   four clients that read 1 MiB at a time, against one whose server has one processor
 helpers   a client that writes 1 MiB at a time with three helpers, against the same with none
 random    16 clients that read and write 4 KiB at random places, against four
 
@@ -92,12 +92,13 @@ class Place(serve_speed.Place):
             for pipe in self.all_pipes[-1]:
                 os.mkfifo(pipe)
 
-    def rate(self, clients, helpers, kind, length, count, places=0):
-        """The bytes a second of so many clients, each with so many requests."""
+    def rate(self, clients, helpers, kind, length, count, places=0, processors=None):
+        """The bytes a second of so many clients, each with so many requests. `processors` are the server's, if not all."""
         pipes = self.all_pipes[:clients]
         words = [self.program, "serve", self.container, "--password", PASSWORD, "--pim", "1", "--kind", "standard",
                  "--helpers", str(helpers), "--", *(pipe for pair in pipes for pipe in pair)]
-        with subprocess.Popen(words, stdin=subprocess.DEVNULL, stdout=subprocess.DEVNULL) as run:
+        pinned = (lambda: os.sched_setaffinity(0, processors)) if processors else None
+        with subprocess.Popen(words, stdin=subprocess.DEVNULL, stdout=subprocess.DEVNULL, preexec_fn=pinned) as run:
             asked = [str(kind), str(length), str(count), str(places)]
             runs = [subprocess.Popen([self.client, *pair, *asked], stdout=subprocess.PIPE, text=True) for pair in pipes]
             try:
@@ -119,8 +120,9 @@ def compared(name, one, other):
 
 def readers(place):
     count = VOLUME // MIB - 1
-    compared("four readers of 1 MiB against one", lambda: place.rate(4, 0, READ, MIB, count),
-             lambda: place.rate(1, 0, READ, MIB, count))
+    compared("four readers of 1 MiB against one of a server with one processor",
+             lambda: place.rate(4, 0, READ, MIB, count),
+             lambda: place.rate(1, 0, READ, MIB, count, processors={min(os.sched_getaffinity(0))}))
 
 
 def helpers(place):
