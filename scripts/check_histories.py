@@ -6,7 +6,8 @@
 PROGRAM defaults to crates/vcserve/out/vcserve. N programs run, by default 300, and 20 more whose server is killed in the
 middle; --side-by-side says how many at a time, by default 2. The clients are at named pipes. Some wait for each reply,
 some send all they have at once. They read and write ranges of their own, the same ranges, or both, with and without a
-protected hidden volume, with 0 to 8 helpers. Then
+protected hidden volume, with 0 to 8 helpers. One more program, the first, is as of daily use: three clients of 16 MiB
+under a cascade without a PIM, with two helpers. Then
 
 - each reply has the error that docs/PROTOCOL.md gives it, whatever the order of the requests;
 - one history explains all replies and the container (served_history.py), also the times at which they came;
@@ -28,12 +29,12 @@ import threading
 import time
 from concurrent.futures import ThreadPoolExecutor
 
-from check_hidden import write
-from independent_container import SECTOR
-from program_rows import LIMIT, Rows, info_words
+from check_hidden import OUTER_KEY, write
+from independent_container import SECTOR, formatted, is_available
+from program_rows import LIMIT, PASSWORD, Rows, info_words
 from served_client import Link, differences, differences_of_replies, endings
 from served_history import Event, why_no_history
-from served_model import FLUSH, FUA, PERM, READ, WRITE, Volume, case_of, head, reply
+from served_model import FLUSH, FUA, PERM, READ, WRITE, Case, Volume, case_of, head, opened, reply
 from speed import PROGRAM
 
 KIB = 1 << 10
@@ -95,6 +96,34 @@ class Client:
             return False
         request.end, request.error, request.got = time.monotonic(), error, data
         return True
+
+
+class Realistic:
+    """A program as of daily use: a container of 16 MiB with a cascade and no PIM, and three clients whose 40 requests each,
+    of 4 to 256 KiB, are of the same MiB of it."""
+
+    has_own_ranges = False
+    name = "three clients of a cascade, 2 helpers"
+    threads = ["--helpers", "2"]
+    algorithm, prf = "aes-twofish-serpent", "sha256"
+
+    def __init__(self):
+        draw = random.Random(16)
+        image = formatted(16384 * KIB, PASSWORD, 0, OUTER_KEY, self.prf, self.algorithm)
+        fields = opened(image, 0, PASSWORD, self.prf, self.algorithm, pim=0)
+        self.case = Case(self.name, image, ["--password", PASSWORD], fields, self.algorithm)
+        self.clients = [Client([self.request(draw) for _ in range(40)], waits) for waits in (True, False, False)]
+
+    def requests(self):
+        return [client.requests for client in self.clients]
+
+    @staticmethod
+    def request(draw):
+        length = 4 * KIB * draw.randint(1, 64)
+        offset = SECTOR * draw.randint(0, (1024 * KIB - length) // SECTOR)
+        if draw.randrange(3) == 0:
+            return Request(READ, offset, length)
+        return Request(WRITE, offset, length, draw.randbytes(length), draw.choice((0, 0, FUA)))
 
 
 class Program:
@@ -216,8 +245,11 @@ def run_clients(program, link, kill_at=None):
 
 
 def whole_run(vcserve, folder, seed):
+    return explained(vcserve, folder, Program(seed))
+
+
+def explained(vcserve, folder, program):
     """One program: its name, and what is wrong."""
-    program = Program(seed)
     case = program.case
     link = Link(vcserve, folder, case, True, *program.threads, clients=len(program.clients))
     run_clients(program, link)
@@ -278,7 +310,15 @@ def differences_of_sectors(events, before, after):
     return faults[:3]
 
 
+def realistic(rows, folder):
+    if not is_available(Realistic.algorithm):
+        return rows.leave_out(f"history: {Realistic.name}", "libgcrypt is missing")
+    name, faults = explained(rows.program, folder, Realistic())
+    return rows.note(f"history: {name}", faults)
+
+
 def check(rows, folder, count, killed, seed, side_by_side):
+    realistic(rows, folder)
     with ThreadPoolExecutor(side_by_side) as pool:
         for run, seeds in [(whole_run, range(seed, seed + count)), (killed_run, range(seed, seed + killed))]:
             for name, faults in pool.map(lambda one, run=run: run(rows.program, folder, one), seeds):

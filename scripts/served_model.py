@@ -130,10 +130,10 @@ class Case:
         return Volume(self.image, self.fields, self.algorithm, self.protected)
 
 
-def opened(image, place, password, prf="sha512", algorithm="aes"):
+def opened(image, place, password, prf="sha512", algorithm="aes", pim=1):
     """The fields of the header at this place."""
     salt, body = image[place:place + 64], image[place + 64:place + SECTOR]
-    return fields_of(decipher(derive(password, salt, 1, prf, algorithm), 0, body, algorithm))
+    return fields_of(decipher(derive(password, salt, pim, prf, algorithm), 0, body, algorithm))
 
 
 def options(password=PASSWORD, *more):
