@@ -25,7 +25,8 @@ import struct
 import sys
 import tempfile
 import time
-from concurrent.futures import ThreadPoolExecutor
+from concurrent.futures import ProcessPoolExecutor
+from functools import partial
 
 from check_histories import Request, array_of, differences_outside, events_of
 from program_rows import Rows
@@ -200,7 +201,7 @@ def replied(requests, got):
     return parsed, "other bytes than its replies" if at != len(got) else ""
 
 
-def one(program, folder, number, clients, cases):
+def one(program, folder, clients, cases, number):
     """Serves a batch: its name, what is wrong, and its memory."""
     batch = Batch(number, clients, cases)
     run, found, image = serve_all(program, folder, batch.case, batch.streams, *batch.threads)
@@ -221,9 +222,10 @@ def cases():
 
 def check(rows, folder, numbers, clients, side_by_side):
     """Serves these batches, and gives the most memory that one took, in KiB."""
-    made, most = cases(), 0
-    with ThreadPoolExecutor(side_by_side) as pool:
-        for name, faults, memory in pool.map(lambda number: one(rows.program, folder, number, clients, made), numbers):
+    most = 0
+    with ProcessPoolExecutor(side_by_side) as pool:
+        run = partial(one, rows.program, folder, clients, cases())
+        for name, faults, memory in pool.map(run, numbers, chunksize=8):
             rows.note(f"fuzz: {name}", faults)
             most = max(most, memory)
     return most
