@@ -13,6 +13,7 @@ writes    sequential writes of 1 MiB, in MB/s: at least 0.85 of one processor's 
 random    reads and writes of 4 KiB at random places. A read's time less that of the copying loop: at most 1.3 times
           that of deciphering 4 KiB, and 5 microseconds
 idle      processor time of a server whose client asks nothing for 2 seconds: none
+others    qemu-nbd and nbdkit over LUKS beside it, as far as they are installed (served_others.py)
 
 Deciphering is `cat` of the same volume less `cat` of nothing, by processor time. For enciphering a probe of units
 in memory is built by `rt` (as in speed.py); without rt deciphering stands for it, which is told.
@@ -27,6 +28,7 @@ import sys
 import tempfile
 import time
 
+import served_others
 from independent_container import GROUP, SECTOR, make
 from probe import build
 from speed import PASSWORD, PROBE, PROGRAM, best, cat_time, load, processor, processor_time
@@ -217,7 +219,12 @@ def idle(place):
     print(f"idle: {spent} ticks of {1000 // os.sysconf('SC_CLK_TCK')} ms in 2 s (none)")
 
 
-MEASURES = {"reads": reads, "writes": writes, "random": at_random, "idle": idle}
+def others(place):
+    with tempfile.TemporaryDirectory(dir=os.path.dirname(place.container)) as folder:
+        served_others.measure(place.program, folder, VOLUME, TURNS)
+
+
+MEASURES = {"reads": reads, "writes": writes, "random": at_random, "idle": idle, "others": others}
 
 
 def main(words):
