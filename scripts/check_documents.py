@@ -8,7 +8,8 @@ order in one folder, as a reader would type them, each by bash. What one prints 
 without such a block may print anything. Their home folder has a password in `.disk-password`. An example that begins a
 line with a program that isn't installed is left out, and told.
 
-The status is 0 if all examples agree, and 1 if one differs.
+The status is 0 if all examples agree, 1 if one differs, and 77 if the package `cryptography` is missing, which the
+modules that it shares with other scripts need.
 """
 import os
 import re
