@@ -18,9 +18,9 @@ use Rattle.nbd_wire.specs.declared.request.Request.{Request}
 use Rattle.sector_model.specs.declared.entry.Entry.{Entry}
 use Rattle.nbd_session.specs.Session.{events_of, Serves}
 use Rattle.nbd_session.specs.Laws.Acts.{Acts}
-use Rattle.nbd_session.specs.Laws.Sent.{Replied}
-use Rattle.nbd_session.specs.Laws.Onward.{Answers, NoRequest}
-use Rattle.nbd_session.specs.Laws.Taken.{TakesHead, TakesPayload}
+use Rattle.nbd_session.specs.Sent.{Replied}
+use Rattle.nbd_session.specs.Laws.Onward.{Answers}
+use Rattle.nbd_session.specs.Taken.{NoRequest, TakesHead, TakesPayload}
 use Rattle.nbd_session.proofs.HeadAndPayload.{answered_request, failed_reply}
 use Rattle.nbd_session.proofs.RequestByRequest.{serves_none}
 

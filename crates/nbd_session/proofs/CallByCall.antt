@@ -14,9 +14,9 @@ use Rattle.sector_model.specs.declared.entry.Event.{Event}
 use Rattle.vc_base.specs.Faults.{HasCause, Rose}
 use Rattle.nbd_session.specs.Laws.Acts.{Acts}
 use Rattle.nbd_session.specs.Session.{events_of, Serves}
-use Rattle.nbd_session.specs.Laws.Onward.{Answers, Did, NoRequest, OnlyEnds, Onward}
-use Rattle.nbd_session.specs.Laws.Sent.{Replied}
-use Rattle.nbd_session.specs.Laws.Taken.{CutsPayload, end_of}
+use Rattle.nbd_session.specs.Laws.Onward.{Answers, Did, Onward}
+use Rattle.nbd_session.specs.Taken.{CutsPayload, end_of, NoRequest, OnlyEnds}
+use Rattle.nbd_session.specs.Sent.{Replied}
 use Rattle.nbd_session.specs.declared.input.Stop.{Stop}
 use Rattle.nbd_session.specs.declared.input.Stop.TheVariants.{Ended, Failed}
 use Rattle.nbd_session.proofs.RequestByRequest.{onward_end, onward_more, onward_none}

@@ -13,7 +13,7 @@ use Rattle.nbd_wire.specs.declared.reply.Outcome.{Outcome}
 use Rattle.nbd_wire.specs.declared.reply.Outcome.TheVariants as outcome
 use Rattle.sector_model.specs.declared.entry.Event.{Event}
 use Rattle.nbd_session.specs.Session.{events_of}
-use Rattle.nbd_session.specs.Laws.Outcomes.{data_of, read_outcome, write_outcome}
+use Rattle.nbd_session.specs.Outcomes.{data_of, read_outcome, write_outcome}
 
 pub read_leaves : {A : Type 0} (v : Volume) (sector caller first count : ℕ) (out : List ℕ) (r : Result A IoError) → IsReadResult r
     → sectors_of v out ≡ count → length out ≡ sector * count

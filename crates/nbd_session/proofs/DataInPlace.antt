@@ -4,7 +4,7 @@ use Rattle.std.proofs.lemmas.List.{append-nil, drop_all, drop_at, length-drop, l
 use borrow.Rule.Slice.PartMut.{put_mid}
 use Rattle.nbd_wire.specs.declared.reply.Outcome.{Outcome}
 use Rattle.nbd_wire.specs.declared.reply.Outcome.TheVariants as outcome
-use Rattle.nbd_session.specs.Laws.Outcomes.{data_of}
+use Rattle.nbd_session.specs.Outcomes.{data_of}
 
 -- the part for the data
 pub length-data : (n : ℕ) (buf : List ℕ) → length buf ≡ 16 + n → length (take (length buf - 16) (drop 16 buf)) ≡ n

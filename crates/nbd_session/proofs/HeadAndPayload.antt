@@ -13,9 +13,9 @@ use Rattle.nbd_wire.specs.declared.request.Request.{Request}
 use Rattle.sector_model.specs.declared.entry.Event.{Event}
 use Rattle.vc_outside.specs.Told.{Grows, Shrinks}
 use Rattle.nbd_session.specs.Session.{Serves}
-use Rattle.nbd_session.specs.Laws.Onward.{Answers, NoRequest, OnlyEnds}
-use Rattle.nbd_session.specs.Laws.Sent.{GrowsInPart}
-use Rattle.nbd_session.specs.Laws.Taken.{CutsPayload, TakesHead, TakesPayload}
+use Rattle.nbd_session.specs.Laws.Onward.{Answers}
+use Rattle.nbd_session.specs.Taken.{CutsPayload, NoRequest, OnlyEnds, TakesHead, TakesPayload}
+use Rattle.nbd_session.specs.Sent.{GrowsInPart}
 use Rattle.nbd_session.proofs.NoHead.{short_bytes}
 use Rattle.nbd_session.proofs.RequestByRequest.{serves_stop}
 use Rattle.nbd_session.proofs.Starts.{after_disconnect, after_part, after_whole, start_head}

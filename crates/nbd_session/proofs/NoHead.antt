@@ -12,8 +12,7 @@ use Rattle.nbd_wire.specs.declared.end.End.TheVariants as end
 use Rattle.vc_outside.specs.Told.{Shrinks}
 use Rattle.nbd_session.specs.declared.input.Stop.{Stop}
 use Rattle.nbd_session.specs.declared.input.Stop.TheVariants.{Ended, Failed}
-use Rattle.nbd_session.specs.Laws.Onward.{NoRequest, OnlyEnds}
-use Rattle.nbd_session.specs.Laws.Taken.{end_of}
+use Rattle.nbd_session.specs.Taken.{end_of, NoRequest, OnlyEnds}
 use Rattle.nbd_session.proofs.Starts.{has_magic-append, start_bad, start_cut, start_over, start_short, start_wrong}
 use Rattle.nbd_session.proofs.Streams.{ended_on, shrinks_twice}
 

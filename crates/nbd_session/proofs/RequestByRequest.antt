@@ -12,7 +12,8 @@ use Rattle.nbd_wire.proofs.AnsweredOnward.{answered_end, answered_more, answered
 use Rattle.sector_model.specs.declared.entry.Event.{Event}
 use Rattle.vc_outside.specs.Told.{Grows, Shrinks}
 use Rattle.nbd_session.specs.Session.{Serves}
-use Rattle.nbd_session.specs.Laws.Onward.{Answers, NoRequest, OnlyEnds, Onward}
+use Rattle.nbd_session.specs.Laws.Onward.{Answers, Onward}
+use Rattle.nbd_session.specs.Taken.{NoRequest, OnlyEnds}
 use Rattle.nbd_session.proofs.Streams.{grows_none, grows_twice, shrinks_none, shrinks_twice}
 
 -- at the start nothing was done

@@ -7,7 +7,7 @@ use borrow.Rule.Slice.PartMut.{post_of, put_mid}
 use Rattle.vc_outside.specs.Told.{Grows, Shrinks}
 use Rattle.nbd_session.specs.declared.input.Stop.{Stop}
 use Rattle.nbd_session.specs.declared.input.Stop.TheVariants.{Ended}
-use Rattle.nbd_session.specs.Laws.Taken.{Passes, Skips}
+use Rattle.nbd_session.specs.Taken.{Passes, Skips}
 
 -- one part after another
 pub grows_twice : (a b c : Option (List ℕ)) (xs ys : List ℕ) → Grows a b xs → Grows b c ys → Grows a c (xs ++ ys)

@@ -4,7 +4,7 @@ ghost use Rattle.frag_pool.specs.Bench.{is_empty};
 ghost use Rattle.hist_lock.specs.Known.{view};
 ghost use Rattle.io_queue.specs.Pass.{Call, IsPass, NothingOpen};
 ghost use Rattle.nbd_session.specs.Laws.Onward.{Answers};
-ghost use Rattle.nbd_session.specs.Laws.Taken.{TakesHead};
+ghost use Rattle.nbd_session.specs.Taken.{TakesHead};
 ghost use Rattle.nbd_session.specs.Session.{events_of, Serves};
 ghost use Rattle.sector_model.specs.declared.entry.Entry.{Entry};
 ghost use Rattle.vc_base.specs.Faults.{HasCause};

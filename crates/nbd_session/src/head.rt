@@ -1,7 +1,6 @@
 //! The next request of a source.
 ghost use Rattle.std.specs.Prelude.{◌≡◌, Err, IfErr, IfOk};
-ghost use Rattle.nbd_session.specs.Laws.Onward.{NoRequest};
-ghost use Rattle.nbd_session.specs.Laws.Taken.{TakesHead};
+ghost use Rattle.nbd_session.specs.Taken.{NoRequest, TakesHead};
 ghost use Rattle.vc_base.specs.Faults.{HasCause};
 
 use crate::input::{end_of, fill};
@@ -11,8 +10,9 @@ use vc_outside::Source;
 // The bytes of the magic.
 const MAGIC: usize = 4;
 
-// Takes the next head. The magic counts as soon as it is there, and a head without it is not waited for.
-pub(crate) fn next_request<I: Source>(source: &mut I) -> Result<Request, End>
+/// Takes the next head, 28 bytes, or returns how the session ends. The magic counts as soon as it is there, and a
+/// head without it is not waited for.
+pub fn next_request<I: Source>(source: &mut I) -> Result<Request, End>
     ensures head { IfOk result (λ r. TakesHead (I.left source.old) (I.left source.new) r) }
     ensures none { IfErr result (λ how. NoRequest (I.left source.old) (I.left source.new) how) }
     ensures cause { HasCause (I.faults source.old) (I.faults source.new) (result ≡ Err End.ReadFault) }

@@ -1,6 +1,6 @@
 //! Bytes of a source: as many as are asked for, or fewer if it ends or fails first.
 ghost use Rattle.std.specs.Prelude.{◌≡◌, ◌≤◌, ◌<◌, length, take, IfSome, IsNone, IsSome, Some};
-ghost use Rattle.nbd_session.specs.Laws.Taken.{end_of, Skips};
+ghost use Rattle.nbd_session.specs.Taken.{end_of, Skips};
 ghost use Rattle.vc_base.specs.Faults.{HasCause};
 ghost use Rattle.vc_outside.specs.Told.{Shrinks};
 
@@ -10,9 +10,9 @@ use vc_outside::Source;
 // The bytes of the buffer for what is skipped.
 const SCRATCH: usize = 65_536;
 
-// Why a source gave fewer bytes than it was asked for.
+/// Why a source gave fewer bytes than it was asked for.
 #[derive(Clone, Copy)]
-pub(crate) enum Stop {
+pub enum Stop {
     Ended,
     Failed,
 }

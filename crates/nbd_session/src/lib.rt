@@ -18,13 +18,17 @@
 
 mod answer;
 mod client;
-mod head;
-mod input;
+pub mod head;
+pub mod input;
 mod output;
-mod payload;
-mod reply;
-mod sectors;
+pub mod payload;
+pub mod reply;
+pub mod sectors;
 #[cfg(test)]
 mod tests;
 
 pub use client::session;
+pub use head::next_request;
+pub use payload::take_rest;
+pub use reply::{reply_alone, reply_data};
+pub use sectors::{flush_volume, read_sectors, write_request};

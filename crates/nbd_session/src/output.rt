@@ -1,6 +1,6 @@
 //! Bytes for a sink, written whole.
 ghost use Rattle.std.specs.Prelude.{◌≡◌, IsErrOf, OnErr, OnOk};
-ghost use Rattle.nbd_session.specs.Laws.Sent.{GrowsInPart};
+ghost use Rattle.nbd_session.specs.Sent.{GrowsInPart};
 ghost use Rattle.vc_base.specs.Faults.{HasCause};
 ghost use Rattle.vc_outside.specs.Told.{Grows};
 

@@ -1,6 +1,6 @@
 //! The payload of a write.
 ghost use Rattle.std.specs.Prelude.{◌≡◌, length, Err, IfErr, IfOk, IfSome, option_map};
-ghost use Rattle.nbd_session.specs.Laws.Taken.{CutsPayload, TakesPayload};
+ghost use Rattle.nbd_session.specs.Taken.{CutsPayload, TakesPayload};
 ghost use Rattle.nbd_wire.specs.Frames.{payload_length};
 ghost use Rattle.vc_base.specs.Faults.{HasCause};
 
@@ -44,8 +44,10 @@ fn pass_payload<I: Source>(source: &mut I, n: u32) -> Result<Option<Vec<u8>>, En
     }
 }
 
-// Takes what follows a request's head. A payload that isn't wanted takes no memory.
-pub(crate) fn take_rest<I: Source>(
+/// Takes what follows a request's head: the payload of a write, otherwise nothing. It is None if it isn't wanted,
+/// if there is no memory for it, or if the request has none; its bytes are taken all the same. Fails as the session
+/// ends if the source ends or fails first.
+pub fn take_rest<I: Source>(
     alloc: Global,
     source: &mut I,
     request: &Request,

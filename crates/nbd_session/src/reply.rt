@@ -1,6 +1,6 @@
 //! Replies, written whole.
 ghost use Rattle.std.specs.Prelude.{◌≡◌, ◌≤◌, ◌++◌, drop, length, Some};
-ghost use Rattle.nbd_session.specs.Laws.Sent.{Replied};
+ghost use Rattle.nbd_session.specs.Sent.{Replied};
 ghost use Rattle.nbd_wire.specs.Replies.{error_of};
 ghost use Rattle.nbd_wire.specs.Wire.{reply};
 ghost use Rattle.vc_base.specs.Faults.{HasCause};
@@ -21,8 +21,8 @@ fn send_whole<O: Sink>(sink: &mut O, bytes: &[u8]) -> Option<End>
     }
 }
 
-// Replies to a request without data.
-pub(crate) fn reply_alone<O: Sink>(sink: &mut O, request: &Request, outcome: Outcome) -> Option<End>
+/// Replies to a request without data. Returns how the session ends if the sink doesn't take the whole reply.
+pub fn reply_alone<O: Sink>(sink: &mut O, request: &Request, outcome: Outcome) -> Option<End>
     ensures replied { Replied (O.contents sink.old) (O.contents sink.new) (reply (error_of outcome) request.now.cookie) result }
     ensures cause { HasCause (O.faults sink.old) (O.faults sink.new) (result ≡ Some End.WriteFault) }
 {
@@ -31,8 +31,9 @@ pub(crate) fn reply_alone<O: Sink>(sink: &mut O, request: &Request, outcome: Out
     send_whole(sink, &head)
 }
 
-// Replies to a read that was done. The data are in the buffer already, and the reply goes in before them.
-pub(crate) fn reply_data<O: Sink>(sink: &mut O, request: &Request, buf: &mut [u8]) -> Option<End>
+/// Replies to a read that was done. The data are in the buffer already, behind 16 bytes, which the reply takes.
+/// Returns how the session ends if the sink doesn't take all.
+pub fn reply_data<O: Sink>(sink: &mut O, request: &Request, buf: &mut [u8]) -> Option<End>
     requires room { 16 ≤ length buf.old }
     ensures replied { Replied (O.contents sink.old) (O.contents sink.new) (reply 0 request.now.cookie ++ drop 16 buf.old) result }
     ensures cause { HasCause (O.faults sink.old) (O.faults sink.new) (result ≡ Some End.WriteFault) }

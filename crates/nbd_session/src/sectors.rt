@@ -3,7 +3,7 @@ ghost use Rattle.std.specs.Prelude.{◌≡◌, ◌<◌, ◌≤◌, ◌*◌, ◌^
 ghost use Rattle.frag_pool.specs.Bench.{is_empty};
 ghost use Rattle.hist_lock.specs.Known.{view};
 ghost use Rattle.io_queue.specs.Pass.{Call, IsPass, NothingOpen};
-ghost use Rattle.nbd_session.specs.Laws.Outcomes.{data_of, outcome_of};
+ghost use Rattle.nbd_session.specs.Outcomes.{data_of, outcome_of};
 ghost use Rattle.nbd_session.specs.Session.{events_of};
 ghost use Rattle.nbd_wire.specs.Replies.{FlushLeaves, ReadLeaves, WriteLeaves};
 ghost use Rattle.sector_model.specs.declared.entry.Entry.{Entry};
@@ -20,8 +20,8 @@ use std::sync::Wait;
 use std::thread::Threads;
 use vc_outside::{Gate, Store};
 
-// Reads `count` sectors, which are the data of the reply.
-pub(crate) fn read_sectors<R: Threads + Wait + Sync, S: Store, C: UnitCipher + Sync>(
+/// Reads `count` sectors from `first` on, which are the data of the reply.
+pub fn read_sectors<R: Threads + Wait + Sync, S: Store, C: UnitCipher + Sync>(
     rt: &R,
     volume: &Volume<S, C>,
     pass: &mut Pass<Core<S, C>>,
@@ -46,7 +46,7 @@ pub(crate) fn read_sectors<R: Threads + Wait + Sync, S: Store, C: UnitCipher + S
 }
 
 // Writes `count` sectors, without a flush.
-pub(crate) fn write_sectors<R: Threads + Wait + Sync, S: Store, C: UnitCipher, G: Gate>(
+fn write_sectors<R: Threads + Wait + Sync, S: Store, C: UnitCipher, G: Gate>(
     rt: &R,
     alloc: Global,
     volume: &Volume<S, C>,
@@ -78,8 +78,8 @@ pub(crate) fn write_sectors<R: Threads + Wait + Sync, S: Store, C: UnitCipher, G
     )
 }
 
-// Writes `count` sectors. With `fua` a flush follows if they are stored.
-pub(crate) fn write_request<R: Threads + Wait + Sync, S: Store, C: UnitCipher, G: Gate>(
+/// Writes `count` sectors from `first` on. With `fua` a flush follows if they are stored.
+pub fn write_request<R: Threads + Wait + Sync, S: Store, C: UnitCipher, G: Gate>(
     rt: &R,
     alloc: Global,
     volume: &Volume<S, C>,
@@ -115,8 +115,8 @@ pub(crate) fn write_request<R: Threads + Wait + Sync, S: Store, C: UnitCipher, G
     flush_volume(rt, volume, pass)
 }
 
-// Flushes the volume.
-pub(crate) fn flush_volume<R: Threads + Wait + Sync, S: Store, C: UnitCipher>(
+/// Flushes the volume.
+pub fn flush_volume<R: Threads + Wait + Sync, S: Store, C: UnitCipher>(
     rt: &R,
     volume: &Volume<S, C>,
     pass: &mut Pass<Core<S, C>>,

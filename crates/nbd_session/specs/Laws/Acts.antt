@@ -12,7 +12,7 @@ use Rattle.nbd_wire.specs.Replies.{IsAnswered}
 use Rattle.nbd_wire.specs.declared.end.End.{End}
 use Rattle.nbd_wire.specs.declared.request.Request.{Request}
 use Rattle.sector_model.specs.declared.entry.Entry.{Entry}
-use Rattle.nbd_session.specs.Laws.Sent.{Replied}
+use Rattle.nbd_session.specs.Sent.{Replied}
 
 pub record Acts {S C : Type 0} (sector : ℕ) (f : Frame) (v w : View (State S C) Entry) (held now : Option (List ℕ)) (how : Option End) : Type 0 where
   pub es : List Entry

@@ -3,17 +3,14 @@
 -- Onward ..     what is answered of later bytes, after what was taken, written and left so far, is answered of all of them
 -- Answers ..    one request was taken and answered
 -- Did v w ..    what was done so far, and the entries that a pass got meanwhile
--- OnlyEnds s how   bytes that start so have no request, and the session ends so
--- NoRequest ..  bytes were taken that have no request
-use Rattle.std.specs.Prelude.{◌≡◌, ◌⊎◌, ℕ, ◌+◌, List, [], ◌++◌, Option, IfSome}
+use Rattle.std.specs.Prelude.{◌≡◌, ℕ, ◌+◌, List, ◌++◌, Option}
 use Rattle.hist_lock.specs.declared.view.View.{View}
 use Rattle.io_core.specs.State.{State}
 use Rattle.io_queue.specs.Pass.{Call}
 use Rattle.nbd_session.specs.Session.{events_of}
-use Rattle.nbd_wire.specs.Frames.{Frame, frames, Start, over, short, wrong, leaves, asks, start}
+use Rattle.nbd_wire.specs.Frames.{Frame, frames, asks, start}
 use Rattle.nbd_wire.specs.Replies.{AreAnswered, IsAnswered}
 use Rattle.nbd_wire.specs.declared.end.End.{End}
-use Rattle.nbd_wire.specs.declared.end.End.TheVariants as end
 use Rattle.sector_model.specs.declared.entry.Entry.{Entry}
 use Rattle.sector_model.specs.declared.entry.Event.{Event}
 use Rattle.vc_outside.specs.Told.{Grows, Shrinks}
@@ -39,17 +36,3 @@ pub record Answers (sector : ℕ) (left later held now : Option (List ℕ)) (es 
 abbrev pub Did : {S C : Type 0} → ℕ → View (State S C) Entry → View (State S C) Entry
     → Option (List ℕ) → Option (List ℕ) → Option (List ℕ) → Option (List ℕ) → ℕ → Type 0
 Did sector v w left later held now n = (es : List Entry) × Call v w es × Onward sector left later held now (events_of es) n
-
-abbrev pub OnlyEnds : Start → End → Type 0
-OnlyEnds over how = (how ≡ end.Done) ⊎ (how ≡ end.ReadFault)
-OnlyEnds short how = (how ≡ end.Cut) ⊎ (how ≡ end.ReadFault)
-OnlyEnds (wrong magic) how = (how ≡ end.BadMagic magic) ⊎ (how ≡ end.ReadFault)
-OnlyEnds (leaves rest) how = (how ≡ end.Done) ⊎ (how ≡ end.ReadFault)
-OnlyEnds (asks r payload rest) how = ⊥
-
-pub record NoRequest (left later : Option (List ℕ)) (how : End) : Type 0 where
-  pub taken : List ℕ
-  pub input : Shrinks left later taken
-  pub alone : OnlyEnds (start taken) how
-  pub whole : IfSome left (λ bytes. ¬ (how ≡ end.ReadFault) → OnlyEnds (start bytes) how)
-  pub unread : (frames taken).unread ≡ []

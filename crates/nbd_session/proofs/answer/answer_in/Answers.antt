@@ -7,8 +7,8 @@ use Rattle.nbd_wire.specs.declared.reply.Outcome.{Outcome}
 use Rattle.nbd_wire.specs.declared.reply.Outcome.TheVariants as outcome
 use Rattle.nbd_session.proofs.Acted.{acts_alone, acts_with}
 use Rattle.nbd_session.proofs.DataInPlace.{data_put, length-data, no_data}
-use Rattle.nbd_session.specs.Laws.Outcomes.{data_of}
-use Rattle.nbd_session.specs.Laws.Sent.{Replied}
+use Rattle.nbd_session.specs.Outcomes.{data_of}
+use Rattle.nbd_session.specs.Sent.{Replied}
 use Rattle.nbd_session.specs.Session.{events_of}
 use Rattle.nbd_session.proofs.answer.answer_in.Goals as goal
 

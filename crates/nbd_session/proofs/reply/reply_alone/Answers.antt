@@ -1,6 +1,6 @@
 use Rattle.std.proofs.Common.{ℕ, List, ap, ◌∙◌, subst}
 use Rattle.nbd_wire.specs.Wire.{reply}
-use Rattle.nbd_session.specs.Laws.Sent.{Replied}
+use Rattle.nbd_session.specs.Sent.{Replied}
 use Rattle.nbd_session.proofs.reply.reply_alone.Goals as goal
 
 pub returns-clause-replied : goal.returns-clause-replied

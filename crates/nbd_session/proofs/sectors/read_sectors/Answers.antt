@@ -2,7 +2,7 @@ use Rattle.std.proofs.Common.{length, sym, subst, ◌∙◌}
 use Rattle.hist_lock.specs.Known.{view}
 use Rattle.io_queue.specs.Calls.{read_entries}
 use Rattle.io_queue.specs.Pass.{shape}
-use Rattle.nbd_session.specs.Laws.Outcomes.{data_of}
+use Rattle.nbd_session.specs.Outcomes.{data_of}
 use Rattle.nbd_session.specs.Session.{events_of}
 use Rattle.nbd_wire.specs.Replies.{ReadLeaves}
 use Rattle.nbd_wire.specs.declared.reply.Outcome.{Outcome}

@@ -4,12 +4,15 @@
 -- end_of stop between         how the session ends then, between two requests or inside one
 -- TakesHead left later r      a head was taken, and has these fields
 -- Skips left later n stop    bytes were skipped, up to n. If the source ended, they are all that was left.
+-- OnlyEnds s how              bytes that start so have no request, and the session ends so
+-- NoRequest left later how    bytes were taken that have no request
 -- TakesPayload ..            a payload of n bytes was taken, into memory if there was enough
 -- CutsPayload ..             the source stopped inside a payload of n bytes
-use Rattle.std.specs.Prelude.{◌≡◌, ◌<◌, ℕ, Bool, true, false, if◌then◌else◌, List, length, Option, Some, None, IfSome}
+use Rattle.std.specs.Prelude.{◌≡◌, ◌<◌, ◌⊎◌, ℕ, Bool, true, false, if◌then◌else◌, List, [], length, Option, Some, None, IfSome}
+use Rattle.nbd_wire.specs.Frames.{frames, Start, over, short, wrong, leaves, asks, start}
 use Rattle.nbd_wire.specs.Wire.{has_magic, request_of}
 use Rattle.nbd_wire.specs.declared.end.End.{End}
-use Rattle.nbd_wire.specs.declared.end.End.TheVariants.{Done, Cut, ReadFault}
+use Rattle.nbd_wire.specs.declared.end.End.TheVariants.{Done, Cut, BadMagic, ReadFault}
 use Rattle.nbd_wire.specs.declared.request.Request.{Request}
 use Rattle.vc_outside.specs.Told.{Shrinks}
 use Rattle.nbd_session.specs.declared.input.Stop.{Stop}
@@ -49,3 +52,17 @@ pub record CutsPayload (left later : Option (List ℕ)) (n : ℕ) (how : End) : 
   pub few : length part < n
   pub ends : how ≡ end_of stop false
   pub all : stop ≡ Ended → IfSome left (λ bytes. bytes ≡ part)
+
+abbrev pub OnlyEnds : Start → End → Type 0
+OnlyEnds over how = (how ≡ Done) ⊎ (how ≡ ReadFault)
+OnlyEnds short how = (how ≡ Cut) ⊎ (how ≡ ReadFault)
+OnlyEnds (wrong magic) how = (how ≡ BadMagic magic) ⊎ (how ≡ ReadFault)
+OnlyEnds (leaves rest) how = (how ≡ Done) ⊎ (how ≡ ReadFault)
+OnlyEnds (asks r payload rest) how = ⊥
+
+pub record NoRequest (left later : Option (List ℕ)) (how : End) : Type 0 where
+  pub taken : List ℕ
+  pub input : Shrinks left later taken
+  pub alone : OnlyEnds (start taken) how
+  pub whole : IfSome left (λ bytes. ¬ (how ≡ ReadFault) → OnlyEnds (start bytes) how)
+  pub unread : (frames taken).unread ≡ []
