@@ -26,5 +26,3 @@ mod output;
 pub mod plain;
 pub mod serve;
 pub mod status;
-#[cfg(test)]
-mod tests;

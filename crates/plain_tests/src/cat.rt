@@ -1,14 +1,15 @@
 //! `cat` over containers with a volume of known bytes.
 ghost use Rattle.std.specs.Prelude.{◌≡◌, ◌≤◌};
 
-use super::misses::{Miss, MissingStore, SlowSink, miss_named, way_named};
-use super::{column, number, run, run_into};
 use cascade_set::{Algorithm, Keyed, Keys};
 use cipher_base::UnitCipher;
 use kdf_hmac::{Prf, pbkdf2};
 use std::alloc::AllocError;
 use std::process::Abort;
 use std::test::Fail;
+use trial_lines::{
+    Miss, MissingStore, SlowSink, column, miss_named, number, run, run_into, way_named,
+};
 use vc_header::{Fields, write_plain};
 use vc_outside::SureStore;
 

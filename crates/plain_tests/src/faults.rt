@@ -1,12 +1,14 @@
 //! `format` and `info` if one call of the container or of the output fails.
 ghost use Rattle.std.specs.Prelude.{◌≡◌};
 
-use super::misses::{Miss, MissingStore, SlowSink, way_named};
-use super::{FORMAT, INFO, SMALL_TEXT, column, number, run, run_into};
-use crate::Status;
 use std::process::Abort;
 use std::test::Fail;
 use std::thread::Threads;
+use trial_lines::{
+    FORMAT, INFO, Miss, MissingStore, SMALL_TEXT, SlowSink, column, number, run, run_into,
+    way_named,
+};
+use vc_app::Status;
 use vc_outside::{MemSink, MemStore, Sink, Store, SureStore};
 
 // An empty store whose call with this number fails, and each after it too if it stops.

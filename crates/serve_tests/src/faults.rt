@@ -1,18 +1,15 @@
 //! `serve` if a call of a client's source or sink fails, or one of the container. Counts of calls are by hand.
-use super::misses::Way;
-use super::serving::{
-    DISCONNECT, Ended, Link, NEVER, Turn, WHOLE, client, container, payload_byte, replies_to,
-    sent_by, serve, shown,
-};
-use crate::Status;
 use nbd_wire::End;
 use std::alloc::{AllocError, Global};
 use std::process::Abort;
 use std::test::Fail;
 use std::thread::Threads;
+use trial_lines::{
+    DISCONNECT, Ended, Link, NEVER, SERVE, Turn, WHOLE, Way, client, container, payload_byte,
+    replies_to, sent_by, serve, shown,
+};
+use vc_app::Status;
 use vc_outside::{NoGate, Store};
-
-static SERVE: &str = "serve|c1.vc|--password|correct horse|--pim|1|--kind|standard";
 
 static CAT: &str = "cat|c1.vc|0|16|--password|correct horse|--pim|1|--kind|standard";
 

@@ -1,12 +1,12 @@
 //! Work that is held until other work has gone on: it goes on only if both run side by side.
-use super::serving::{
-    CAT, DISCONNECT, Ended, NEVER, Turn, WHOLE, client, container, replies_to, sent_by, serve,
-    shown,
-};
-use crate::Status;
 use std::sync::Wait;
 use std::test::Fail;
 use std::thread::Threads;
+use trial_lines::{
+    CAT_OUTER, DISCONNECT, Ended, NEVER, Turn, WHOLE, client, container, replies_to, sent_by,
+    serve, shown,
+};
+use vc_app::Status;
 use vc_outside::{Gate, HoldGate, NoGate};
 
 static SERVE: &str = "serve|c1.vc|--password|correct horse|--pim|1";
@@ -44,7 +44,7 @@ fn served<R: Threads + Wait + Sync + AllocGlobal, G: Gate>(
 fn clients_and_derivations_go_on_beside_one_that_is_held(rt: HostRuntime) -> Result<(), Fail> {
     let alloc = rt.alloc();
     let image = container(&rt, false)?;
-    let mut plain = shown(&rt, CAT, &image)?;
+    let mut plain = shown(&rt, CAT_OUTER, &image)?;
     let first = replies_to(alloc, &mut plain, FIRST)?;
     let second = replies_to(alloc, &mut plain, SECOND)?;
     for (hold, until) in [(1, 514), (513, 2), (100_000, 200_003), (100_003, 200_000)] {
@@ -62,7 +62,10 @@ fn clients_and_derivations_go_on_beside_one_that_is_held(rt: HostRuntime) -> Res
             assert!(rt; link.sink.taken == *want, "{hold} until {until}");
         }
         let bytes = ended.disk.bytes();
-        assert!(rt; shown(&rt, CAT, bytes)? == plain, "{hold} until {until}");
+        assert!(rt;
+            shown(&rt, CAT_OUTER, bytes)? == plain,
+            "{hold} until {until}"
+        );
     }
     Ok(())
 }
@@ -76,7 +79,7 @@ const BORDER: &[Turn] = &[Turn(0, 0, 511 * 512, 1024, 0, 0)];
 fn a_read_sees_all_of_a_write_or_nothing(rt: HostRuntime) -> Result<(), Fail> {
     let alloc = rt.alloc();
     let image = container(&rt, false)?;
-    let mut plain = shown(&rt, CAT, &image)?;
+    let mut plain = shown(&rt, CAT_OUTER, &image)?;
     let old = replies_to(alloc, &mut plain, BORDER)?;
     let written = replies_to(alloc, &mut plain, ALL)?;
     let new = replies_to(alloc, &mut plain, BORDER)?;
@@ -94,7 +97,7 @@ fn a_read_sees_all_of_a_write_or_nothing(rt: HostRuntime) -> Result<(), Fail> {
             assert!(rt; *taken == *want || *taken == *other, "round {round}");
         }
         let bytes = ended.disk.bytes();
-        assert!(rt; shown(&rt, CAT, bytes)? == plain, "round {round}");
+        assert!(rt; shown(&rt, CAT_OUTER, bytes)? == plain, "round {round}");
     }
     Ok(())
 }
@@ -106,7 +109,7 @@ const TWO: &[Turn] = &[Turn(0, 1, 0, 524_288, 0, 0x44)];
 fn a_helper_enciphers_beside_its_client(rt: HostRuntime) -> Result<(), Fail> {
     let alloc = rt.alloc();
     let image = container(&rt, false)?;
-    let mut plain = shown(&rt, CAT, &image)?;
+    let mut plain = shown(&rt, CAT_OUTER, &image)?;
     let want = replies_to(alloc, &mut plain, TWO)?;
     for (hold, until) in [(100, 101), (101, 100)] {
         let gate = HoldGate::new(hold, until, 1_000_000_000);
@@ -118,7 +121,10 @@ fn a_helper_enciphers_beside_its_client(rt: HostRuntime) -> Result<(), Fail> {
             assert!(rt; link.sink.taken == want, "{hold} until {until}");
         }
         let bytes = ended.disk.bytes();
-        assert!(rt; shown(&rt, CAT, bytes)? == plain, "{hold} until {until}");
+        assert!(rt;
+            shown(&rt, CAT_OUTER, bytes)? == plain,
+            "{hold} until {until}"
+        );
     }
     Ok(())
 }

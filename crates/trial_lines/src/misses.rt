@@ -6,16 +6,17 @@ ghost use Rattle.vc_base.specs.Faults.{Rose};
 use std::alloc::Global;
 use vc_outside::{Failed, OutError, Sink, Store};
 
-// How a store fails at one of its reads.
+/// How a store fails at one of its reads.
 #[derive(Clone, Copy, Debug)]
-pub(crate) enum Miss {
-    // The read fails, and the next ones do not.
+pub enum Miss {
+    /// The read fails, and the next ones do not.
     Fails,
-    // The read succeeds, and a fault is counted all the same.
+    /// The read succeeds, and a fault is counted all the same.
     Recovers,
 }
 
-pub(crate) fn miss_named(name: &str) -> Miss {
+/// The miss that a table calls so.
+pub fn miss_named(name: &str) -> Miss {
     if name == "fails" {
         Miss::Fails
     } else {
@@ -23,18 +24,19 @@ pub(crate) fn miss_named(name: &str) -> Miss {
     }
 }
 
-// A store whose read with the number `at` is missed, and to which nothing can be written.
+/// A store whose read with the number `at` is missed, and to which nothing can be written.
 #[derive(Drop)]
-pub(crate) struct MissingStore {
+pub struct MissingStore {
     bytes: Vec<u8>,
     at: u64,
     miss: Miss,
-    pub(crate) reads: u64,
-    pub(crate) faults: u64,
+    pub reads: u64,
+    pub faults: u64,
 }
 
 impl MissingStore {
-    pub(crate) fn new(bytes: Vec<u8>, at: u64, miss: Miss) -> MissingStore {
+    /// A store with these bytes.
+    pub fn new(bytes: Vec<u8>, at: u64, miss: Miss) -> MissingStore {
         MissingStore {
             bytes,
             at,
@@ -116,26 +118,27 @@ impl Store for MissingStore {
     ghost image_may_stay = { λ _ modelled. absurd (false≢true modelled) };
 }
 
-// How a sink takes its pieces.
+/// How a sink takes its pieces.
 #[derive(Clone, Copy, Debug)]
-pub(crate) enum Way {
-    // At most so many bytes of a piece.
+pub enum Way {
+    /// At most so many bytes of a piece.
     Pieces(usize),
-    // So many bytes in all, and nothing from then on.
+    /// So many bytes in all, and nothing from then on.
     Full(usize),
-    // The write with this number fails.
+    /// The write with this number fails.
     Fails(u64),
-    // The same, and each other write takes at most so many bytes of its piece.
+    /// The same, and each other write takes at most so many bytes of its piece.
     PiecesFail(usize, u64),
-    // The write with this number is out of memory.
+    /// The write with this number is out of memory.
     NoMemory(u64),
-    // All, and a fault is counted at each write.
+    /// All, and a fault is counted at each write.
     Recovers,
-    // The same up to the write with this number, which is out of memory.
+    /// The same up to the write with this number, which is out of memory.
     RecoversThenNoMemory(u64),
 }
 
-pub(crate) fn way_named(name: &str, n: u64) -> Way {
+/// The way that a table calls so, with its number.
+pub fn way_named(name: &str, n: u64) -> Way {
     match name {
         "pieces" => Way::Pieces(n as usize),
         "full" => Way::Full(n as usize),
@@ -146,17 +149,18 @@ pub(crate) fn way_named(name: &str, n: u64) -> Way {
     }
 }
 
-// A sink that takes its pieces in one of these ways.
+/// A sink that takes its pieces in one of these ways.
 #[derive(Drop)]
-pub(crate) struct SlowSink {
+pub struct SlowSink {
     way: Way,
-    pub(crate) taken: Vec<u8>,
+    pub taken: Vec<u8>,
     writes: u64,
-    pub(crate) faults: u64,
+    pub faults: u64,
 }
 
 impl SlowSink {
-    pub(crate) fn new(alloc: Global, way: Way) -> SlowSink {
+    /// A sink that has taken nothing.
+    pub fn new(alloc: Global, way: Way) -> SlowSink {
         SlowSink {
             way,
             taken: Vec::new(alloc),

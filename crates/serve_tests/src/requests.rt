@@ -1,12 +1,11 @@
 //! Requests of one client and how its bytes end, by hand from `docs/PROTOCOL.md`.
-use super::serving::{
-    CAT, DISCONNECT, NEVER, Turn, WHOLE, client, container, replies_to, sent_by, serve, shown,
-};
-use crate::Status;
 use std::test::Fail;
+use trial_lines::{
+    CAT_OUTER, DISCONNECT, NEVER, SERVE, Turn, WHOLE, client, container, replies_to, sent_by,
+    serve, shown,
+};
+use vc_app::Status;
 use vc_outside::{NoGate, Source};
-
-static SERVE: &str = "serve|c1.vc|--password|correct horse|--pim|1|--kind|standard";
 
 // A write of 512 bytes, one of 2^32 - 1 bytes, and a head with another magic.
 const WRITE: &[u8] =
@@ -159,7 +158,7 @@ const SESSIONS: &[(&str, Session)] = &[
 fn each_request_has_its_reply_and_each_end_its_status(rt: HostRuntime) -> Result<(), Fail> {
     let alloc = rt.alloc();
     let image = container(&rt, false)?;
-    let whole = shown(&rt, CAT, &image)?;
+    let whole = shown(&rt, CAT_OUTER, &image)?;
     for (case, session) in SESSIONS {
         for cut in [1, 27, 28, 29, 4096] {
             let mut plain = whole.clone()?;
@@ -188,7 +187,10 @@ fn each_request_has_its_reply_and_each_end_its_status(rt: HostRuntime) -> Result
             if plain == whole {
                 assert!(rt; bytes == image.as_slice(), "{case}, cut at {cut}");
             } else {
-                assert!(rt; shown(&rt, CAT, bytes)? == plain, "{case}, cut at {cut}");
+                assert!(rt;
+                    shown(&rt, CAT_OUTER, bytes)? == plain,
+                    "{case}, cut at {cut}"
+                );
             }
         }
     }

@@ -1,9 +1,9 @@
 //! `passwd`, `restore` and `expand` that stop or fail at one of their calls, and what opens afterwards.
-use super::{column, number, run};
-use crate::Status;
 use std::alloc::Global;
 use std::test::Fail;
 use std::thread::Threads;
+use trial_lines::{column, number, run};
+use vc_app::Status;
 use vc_outside::{MemStore, SureStore};
 
 static HIDDEN: &str = "format|c1.vc|--size|263168|--password|correct horse|--random|@|--pim|1";

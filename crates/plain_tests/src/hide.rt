@@ -1,8 +1,8 @@
 //! `hide`, sectors of other sizes, and which header opens then.
-use super::{FORMAT, HIDE, MIB, column, number, run};
-use crate::Status;
 use std::alloc::Global;
 use std::test::Fail;
+use trial_lines::{FORMAT, HIDE, MIB, column, number, run};
+use vc_app::Status;
 use vc_outside::{MemStore, SureStore};
 
 // By hand: the volume's last byte is the last before the backup headers.

@@ -1,10 +1,9 @@
 //! `format`, and what `info` and `cat` then say of the container.
 ghost use Rattle.std.specs.Prelude.{◌≡◌};
 
-use super::misses::{Miss, MissingStore};
-use super::{CAT, FORMAT, INFO, SMALL_TEXT, column, number, run};
-use crate::{Status, run_plain};
 use std::test::Fail;
+use trial_lines::{CAT, FORMAT, INFO, Miss, MissingStore, SMALL_TEXT, column, number, run};
+use vc_app::{Status, run_plain};
 use vc_outside::{MemStore, Store, SureSink, SureStore};
 
 // Whether these 16 bytes are there, the highest first.

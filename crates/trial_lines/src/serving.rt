@@ -1,50 +1,41 @@
 //! Clients in memory whose calls fail as planned, and what has to be replied to them.
-use super::misses::{SlowSink, Way};
-use super::{HIDE, MIB, arguments_of, run};
-use crate::{ServeEnd, run_serve};
+use crate::lines::arguments_of;
+use crate::misses::{SlowSink, Way};
 use std::alloc::{AllocError, Global};
 use std::sync::Wait;
 use std::test::Fail;
 use std::thread::Threads;
-use vc_outside::{Client, Gate, MemSource, MemStore, SureSink, SureStore};
+use vc_app::{ServeEnd, run_serve};
+use vc_outside::{Client, Gate, MemSource, MemStore, SureSink};
 
-// No call has this number, and no piece has so many bytes.
-pub(crate) const NEVER: u64 = u64::MAX;
+/// No call has this number.
+pub const NEVER: u64 = u64::MAX;
 
-pub(crate) const WHOLE: Way = Way::Pieces(usize::MAX);
+/// A sink that takes each piece whole.
+pub const WHOLE: Way = Way::Pieces(usize::MAX);
 
-pub(crate) static CAT: &str = "cat|c1.vc|0|1536|--password|correct horse|--pim|1|--kind|standard";
-
-pub(crate) static CAT_HIDDEN: &str =
-    "cat|c1.vc|0|512|--password|hidden horse|--pim|1|--kind|hidden";
-
-// A disconnect with the cookie 9.
-pub(crate) const DISCONNECT: &[u8] =
+/// A disconnect with the cookie 9.
+pub const DISCONNECT: &[u8] =
     b"\x25\x60\x95\x13\x00\x00\x00\x02\x00\x00\x00\x00\x00\x00\x00\x09\x00\x00\x00\x00\x00\x00\x00\x00\x00\x00\x00\x00";
 
-// A request and its reply: flags, type, offset and length; the error; and what fills the first sector of a write.
-// The cookie is its index.
+/// A request and its reply: flags, type, offset and length; the error; and what fills the first sector of a write.
+/// The cookie is its index.
 #[derive(Clone, Copy)]
-pub(crate) struct Turn(
-    pub(crate) u16,
-    pub(crate) u16,
-    pub(crate) u64,
-    pub(crate) u32,
-    pub(crate) u32,
-    pub(crate) u8,
-);
+pub struct Turn(pub u16, pub u16, pub u64, pub u32, pub u32, pub u8);
 
-pub(crate) type Link = Client<MemSource, SlowSink>;
+/// A client whose calls fail as planned.
+pub type Link = Client<MemSource, SlowSink>;
 
-pub(crate) type Ended = ServeEnd<MemStore, MemSource, SlowSink, SureSink>;
+/// What a call of `serve` with such clients leaves.
+pub type Ended = ServeEnd<MemStore, MemSource, SlowSink, SureSink>;
 
-// The byte k of a payload, whose sectors differ.
-pub(crate) fn payload_byte(first: u8, k: usize) -> u8 {
+/// The byte k of a payload, whose sectors differ.
+pub fn payload_byte(first: u8, k: usize) -> u8 {
     first ^ (k / 512 % 256) as u8
 }
 
-// What a client sends that makes these requests.
-pub(crate) fn sent_by(alloc: Global, turns: &[Turn]) -> Result<Vec<u8>, AllocError> {
+/// What a client sends that makes these requests.
+pub fn sent_by(alloc: Global, turns: &[Turn]) -> Result<Vec<u8>, AllocError> {
     let mut bytes = Vec::new(alloc);
     for (i, turn) in turns.iter().enumerate() {
         let Turn(flags, kind, offset, length, _, first) = *turn;
@@ -63,12 +54,8 @@ pub(crate) fn sent_by(alloc: Global, turns: &[Turn]) -> Result<Vec<u8>, AllocErr
     Ok(bytes)
 }
 
-// The replies to these requests if the volume has these bytes at first. The bytes become those after the requests.
-pub(crate) fn replies_to(
-    alloc: Global,
-    plain: &mut [u8],
-    turns: &[Turn],
-) -> Result<Vec<u8>, AllocError> {
+/// The replies to these requests if the volume has these bytes at first. The bytes become those after the requests.
+pub fn replies_to(alloc: Global, plain: &mut [u8], turns: &[Turn]) -> Result<Vec<u8>, AllocError> {
     let mut bytes = Vec::new(alloc);
     for (i, turn) in turns.iter().enumerate() {
         let Turn(_, _, _, _, error, _) = *turn;
@@ -97,8 +84,8 @@ fn carry_out(plain: &mut [u8], turn: &Turn, reply: &mut Vec<u8>) -> Result<(), A
     Ok(())
 }
 
-// A client that sends these bytes, of which a call gives `cut` at most, or 1 if that is 0. The call `fails` fails.
-pub(crate) fn client(
+/// A client that sends these bytes, of which a call gives `cut` at most, or 1 if that is 0. The call `fails` fails.
+pub fn client(
     alloc: Global,
     sent: Vec<u8>,
     cut: usize,
@@ -111,8 +98,8 @@ pub(crate) fn client(
     })
 }
 
-// Serves clients over a container, of which the call `fails` fails.
-pub(crate) fn serve<R: Threads + Wait + Sync + AllocGlobal, G: Gate>(
+/// Serves clients over a container, of which the call `fails` fails.
+pub fn serve<R: Threads + Wait + Sync + AllocGlobal, G: Gate>(
     rt: &R,
     line: &str,
     image: &[u8],
@@ -127,28 +114,4 @@ pub(crate) fn serve<R: Threads + Wait + Sync + AllocGlobal, G: Gate>(
     let disk = MemStore::new(alloc, bytes, fails, None, 4_096, 8 << 20)?;
     let out = SureSink::new(alloc);
     Ok(run_serve(rt, alloc, arguments.as_slice(), disk, clients, out, gate))
-}
-
-// A container of 1 MiB, with a hidden volume or without one.
-pub(crate) fn container<R: Threads + Sync + AllocGlobal>(
-    rt: &R,
-    hides: bool,
-) -> Result<Vec<u8>, AllocError> {
-    let (_, disk, _) = run(rt, MIB, SureStore::new(Vec::new(rt.alloc())))?;
-    if !hides {
-        return Vec::from_slice(rt.alloc(), disk.bytes());
-    }
-    let (_, disk, _) = run(rt, HIDE, disk)?;
-    Vec::from_slice(rt.alloc(), disk.bytes())
-}
-
-// What `cat` says of a container.
-pub(crate) fn shown<R: Threads + Sync + AllocGlobal>(
-    rt: &R,
-    line: &str,
-    image: &[u8],
-) -> Result<Vec<u8>, AllocError> {
-    let disk = SureStore::new(Vec::from_slice(rt.alloc(), image)?);
-    let (_, _, out) = run(rt, line, disk)?;
-    Vec::from_slice(rt.alloc(), out.bytes())
 }

@@ -1,15 +1,13 @@
 //! `serve` over a container in memory. What its clients send and get is by hand from `docs/PROTOCOL.md`.
 ghost use Rattle.std.specs.Prelude.{◌≡◌};
 
-use super::{CAT, FORMAT, arguments_of, run};
-use crate::{ServeEnd, Status, run_serve};
 use std::alloc::{AllocError, Global};
 use std::sync::Wait;
 use std::test::Fail;
 use std::thread::Threads;
+use trial_lines::{CAT, FORMAT, SERVE, arguments_of, run};
+use vc_app::{ServeEnd, Status, run_serve};
 use vc_outside::{Client, NoGate, SureSink, SureSource, SureStore};
-
-static SERVE: &str = "serve|c1.vc|--password|correct horse|--pim|1|--kind|standard";
 
 // The head of a write of sector 0 with FUA and the cookie 7, a read of it with the cookie 8, and a disconnect.
 static WRITE: &[u8] =

@@ -1,16 +1,12 @@
 //! `serve --handshake` over a container in memory. What its clients send and get is by hand from `docs/PROTOCOL.md`.
-use super::{arguments_of, run};
-use crate::{ServeEnd, Status, run_serve};
 use nbd_hand::Refusal;
 use std::alloc::{AllocError, Global};
 use std::sync::Wait;
 use std::test::Fail;
 use std::thread::Threads;
+use trial_lines::{CAT, MIB, arguments_of, run};
+use vc_app::{ServeEnd, Status, run_serve};
 use vc_outside::{Client, MemSource, NoGate, SureSink, SureStore};
-
-static FORMAT: &str = "format|c1.vc|--size|1048576|--password|correct horse|--random|@|--pim|1";
-
-static CAT: &str = "cat|c1.vc|0|1|--password|correct horse|--pim|1";
 
 static SERVE: &str =
     "serve|c1.vc|--password|correct horse|--pim|1|--kind|standard|--handshake|--helpers|0";
@@ -166,7 +162,7 @@ fn serve<R: Threads + Wait + Sync + AllocGlobal>(
 
 #[test]
 fn a_handshake_comes_before_the_session(rt: HostRuntime) -> Result<(), Fail> {
-    let (_status, disk, _out) = run(&rt, FORMAT, SureStore::new(Vec::new(rt.alloc())))?;
+    let (_status, disk, _out) = run(&rt, MIB, SureStore::new(Vec::new(rt.alloc())))?;
     let image = Vec::from_slice(rt.alloc(), disk.bytes())?;
     let (_status, _disk, sector) = run(&rt, CAT, disk)?;
     for (case, talks, cut, status, lines) in ROWS {

@@ -1,8 +1,7 @@
 //! Headers of which one bit is damaged.
-use super::run;
-use super::serving::{container, shown};
-use crate::Status;
 use std::test::Fail;
+use trial_lines::{container, run, shown};
+use vc_app::Status;
 use vc_outside::SureStore;
 
 static INFO: &str = "info|c1.vc|--password|correct horse|--pim|1|--kind|standard";

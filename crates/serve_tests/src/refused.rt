@@ -1,7 +1,6 @@
 //! Calls of `serve` that serve nobody.
-use super::serving::{DISCONNECT, NEVER, WHOLE, client, container, serve};
-use super::{column, number};
 use std::test::Fail;
+use trial_lines::{DISCONNECT, NEVER, WHOLE, client, column, container, number, serve};
 use vc_outside::{NoGate, Source};
 
 // The exit status, how many clients there are, how many bytes of the container, and the command line. The container

@@ -1,10 +1,10 @@
 //! `serve --protect`: the hidden volume is sectors 1024 to 1535 of the outer one. By hand from `docs/PROTOCOL.md`.
-use super::serving::{
-    CAT, CAT_HIDDEN, DISCONNECT, NEVER, Turn, WHOLE, client, container, replies_to, sent_by, serve,
-    shown,
-};
-use crate::Status;
 use std::test::Fail;
+use trial_lines::{
+    CAT_HIDDEN, CAT_OUTER, DISCONNECT, NEVER, Turn, WHOLE, client, container, replies_to, sent_by,
+    serve, shown,
+};
+use vc_app::Status;
 use vc_outside::NoGate;
 
 static PROTECT: &str =
@@ -33,7 +33,7 @@ fn a_write_into_the_hidden_volume_freezes_the_outer_one(rt: HostRuntime) -> Resu
     let hidden = shown(&rt, CAT_HIDDEN, &image)?;
     assert_eq!(rt; hidden.len(), 512 * 512);
     for cut in [1, 27, 28, 29, 4096] {
-        let mut plain = shown(&rt, CAT, &image)?;
+        let mut plain = shown(&rt, CAT_OUTER, &image)?;
         let want = replies_to(alloc, &mut plain, TURNS)?;
         let mut sent = sent_by(alloc, TURNS)?;
         sent.extend_from_slice(DISCONNECT)?;
@@ -51,7 +51,7 @@ fn a_write_into_the_hidden_volume_freezes_the_outer_one(rt: HostRuntime) -> Resu
             assert!(rt; link.sink.taken == want, "cut at {cut}");
         }
         let bytes = ended.disk.bytes();
-        assert!(rt; shown(&rt, CAT, bytes)? == plain, "cut at {cut}");
+        assert!(rt; shown(&rt, CAT_OUTER, bytes)? == plain, "cut at {cut}");
         assert!(rt; shown(&rt, CAT_HIDDEN, bytes)? == hidden, "cut at {cut}");
     }
     Ok(())

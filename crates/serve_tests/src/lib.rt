@@ -1,0 +1,19 @@
+//! Tests of `serve`: `run_serve` over containers and clients in memory, also over those that fail.
+//!
+//! The crate has nothing but tests. They are apart from `vc_app` so that the gate proves them beside other crates' tests.
+#![tactic(auto)]
+
+#[cfg(test)]
+mod faults;
+#[cfg(test)]
+mod gates;
+#[cfg(test)]
+mod hand;
+#[cfg(test)]
+mod protected;
+#[cfg(test)]
+mod read_back;
+#[cfg(test)]
+mod refused;
+#[cfg(test)]
+mod requests;
