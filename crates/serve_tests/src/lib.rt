@@ -1,12 +1,8 @@
-//! Tests of `serve`: `run_serve` over containers and clients in memory, also over those that fail.
+//! Tests of `serve`: `run_serve` over containers and clients in memory, none of whose calls fail.
 //!
 //! The crate has nothing but tests. They are apart from `vc_app` so that the gate proves them beside other crates' tests.
 #![tactic(auto)]
 
-#[cfg(test)]
-mod faults;
-#[cfg(test)]
-mod gates;
 #[cfg(test)]
 mod hand;
 #[cfg(test)]
