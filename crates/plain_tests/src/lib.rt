@@ -1,6 +1,6 @@
 //! Tests of the commands that serve no client: `run_plain` over stores and sinks in memory, also over those that fail.
 //!
-//! The crate has nothing but tests. They are apart from `vc_app` so that the gate proves them beside other crates' tests.
+//! The crate has nothing but tests. They are apart from `vc_app` so that they can be proved beside other tests.
 #![tactic(auto)]
 
 #[cfg(test)]

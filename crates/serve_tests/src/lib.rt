@@ -1,6 +1,6 @@
 //! Tests of `serve`: `run_serve` over containers and clients in memory, none of whose calls fail.
 //!
-//! The crate has nothing but tests. They are apart from `vc_app` so that the gate proves them beside other crates' tests.
+//! The crate has nothing but tests. They are apart from `vc_app` so that they can be proved beside other tests.
 #![tactic(auto)]
 
 #[cfg(test)]

@@ -1,8 +1,8 @@
 //! What the tests of the commands share: command lines, and what they are run over.
 //!
-//! Only tests call it. A test takes a command line of `lines` or one of its own, and runs it by `runs` over a store and a
-//! sink, of which `misses` has some that fail now and then, or by `serving` over clients in memory, and compares what
-//! each client has to get. No call has a clause: what the commands promise is that of `run_plain` and `run_serve`.
+//! Only tests call it. A test takes a command line of `lines` or one of its own, and runs it: by `runs` over a store
+//! and a sink, of which `misses` has some that fail now and then, or by `serving` over clients in memory, which also
+//! says what each client has to get. No call has a clause: the promises are those of `run_plain` and `run_serve`.
 #![tactic(auto)]
 
 pub use lines::{

@@ -1,7 +1,7 @@
 //! Command lines, and the rows of tables.
 //!
-//! A command line is written with `|` between its arguments, `@` for the random key 00 to 1f and `#` for 20 to 3f. A table
-//! is a text with a row a line and `;` between its columns.
+//! A command line is written with `|` between its arguments, `@` for the random key 00 to 1f and `#` for 20 to 3f. A
+//! table is a text with a row a line and `;` between its columns.
 use std::alloc::{AllocError, Global};
 
 static KEY: &str = "000102030405060708090a0b0c0d0e0f101112131415161718191a1b1c1d1e1f";
