@@ -11,6 +11,7 @@ import subprocess
 import sys
 
 from independent_container import GROUP, make
+from libnbd_python import python_of_libnbd
 from speed import PASSWORD, best
 
 MIB = 1 << 20
@@ -39,15 +40,11 @@ handle.shutdown()
 def seconds(server, kind, length, offsets):
     how, words = server
     asked = json.dumps([how, words, kind, length, offsets])
-    run = subprocess.run([sys.executable, "-c", CLIENT], input=asked, capture_output=True, text=True, timeout=300,
+    run = subprocess.run([python_of_libnbd(), "-c", CLIENT], input=asked, capture_output=True, text=True, timeout=300,
                          check=False)
     if run.returncode != 0:
         sys.exit(f"a session with {words[0]} went wrong: {run.stderr.strip()}")
     return float(run.stdout)
-
-
-def has_libnbd():
-    return subprocess.run([sys.executable, "-c", "import nbd"], capture_output=True, check=False).returncode == 0
 
 
 def servers(program, container, luks, size):
@@ -72,8 +69,8 @@ def servers(program, container, luks, size):
 
 
 def measure(program, folder, size, turns):
-    if not has_libnbd():
-        print("skipped: Python has no module nbd (package python3-libnbd)")
+    if python_of_libnbd() is None:
+        print("skipped: no Python here has the module nbd (package python3-libnbd)")
         return
     all_servers = servers(program, os.path.join(folder, "others.vc"), os.path.join(folder, "others.luks"), size)
     places = size // SMALL
