@@ -8,13 +8,14 @@ qemu-io, fio, and a client of our own (served_handshake.py). A client that isn't
 name. There are two ways to the program, which itself has no sockets:
 
 command   the client starts the program, which has `-` `-` as the client's files: nbdsh and nbdfuse can do that
-socket    a small bridge of this script listens at a Unix socket. For each connection it starts the program, either with the
-          connection as its standard input and output, or with two named pipes between which it carries the bytes. Once it
-          has two sockets, for two clients of one run of the program
+socket    a bridge (served_bridge.py) listens at a Unix socket and starts the program for each connection, with the
+          connection as its standard input and output or with two named pipes. Once it has two sockets, for two clients of
+          one run of the program
 
 The volume has 8 MiB, of which the last MiB is a hidden volume that is protected, unless a client writes everything. After
 each run the container has to be the one that an independent program makes of what was written, and the program has to have
-ended with status 0. Clients that can tell an error also write to the hidden volume, and have to be told EPERM.
+ended with status 0. Clients that can tell an error also write to the hidden volume, and have to be told EPERM. What a client
+asks for in its handshake and isn't offered has to be refused as unsupported, and the client has to go on.
 
 A run that is wrong is told. The status is 1 then, 77 if the package `cryptography` is missing, and otherwise 0.
 """
@@ -26,14 +27,16 @@ import socket
 import subprocess
 import sys
 import tempfile
-import threading
 import time
 from concurrent.futures import ThreadPoolExecutor
 
 from check_hidden import write
+from libnbd_python import environment_of_libnbd, python_of_libnbd
 from program_rows import LIMIT, Rows
+from served_bridge import Bridge, options_text, serve_once, uri_of
 from served_client import serve_words
-from served_handshake import GO, NewstyleClient, Unexpected, differences_by_client, has_handshake
+from served_handshake import (ACK, GO, INFORMATION, NewstyleClient, STRUCTURED_REPLY, UNSUPPORTED, Unexpected,
+                              differences_by_client, has_handshake)
 from served_model import FLUSH, PERM, READ, WRITE, case_of, head, options, reply
 from speed import PROGRAM
 
@@ -42,6 +45,8 @@ SIZE, HIDDEN = 8 * MIB, MIB
 PATTERN = 0x5A
 # how a client is told to start the program itself
 COMMAND = "--command"
+# what the server offers: options 1 to 3, 6 and 7
+OFFERED = (1, 2, 3, 6, 7)
 
 
 class Place:
@@ -70,90 +75,23 @@ class Place:
             return [] if file.read() == self.volume.image else ["the container differs"]
 
 
-def uri_of(path):
-    return f"nbd+unix:///?socket={path}"
+def run_of(words):
+    """A client's run: its status, or None if it doesn't end, and what it printed on both outputs."""
+    try:
+        run = subprocess.run(words, capture_output=True, stdin=subprocess.DEVNULL, timeout=LIMIT, check=False,
+                             env=environment_of_libnbd())
+    except subprocess.TimeoutExpired as why:
+        return None, why.stdout or b"", why.stderr or b""
+    return run.returncode, run.stdout, run.stderr
 
 
-def carry(connection, to, of):
-    """Carries the bytes between a connection and two pipes, until the client has ended."""
-    def carry_back():
-        while data := of.read(1 << 16):
-            connection.sendall(data)
-        connection.shutdown(socket.SHUT_WR)
-
-    back = threading.Thread(target=carry_back)
-    back.start()
-    with contextlib.suppress(OSError):
-        while data := connection.recv(1 << 16):
-            left = memoryview(data)
-            while left:
-                left = left[to.write(left):]
-    to.close()
-    back.join()
-
-
-def serve_all(place, connections):
-    """Runs the program with a client at two named pipes for each connection: its status."""
-    pipes = [os.path.join(place.folder, f"{name}{number}") for number in range(len(connections)) for name in ("to", "from")]
-    for pipe in pipes:
-        os.mkfifo(pipe)
-    run = subprocess.Popen(place.server(*pipes), stdin=subprocess.DEVNULL, stdout=subprocess.DEVNULL,
-                           stderr=subprocess.DEVNULL)
-    with contextlib.ExitStack() as files:
-        ends = [files.enter_context(open(pipe, mode, buffering=0)) for pipe, mode in zip(pipes, ("wb", "rb") * len(pipes))]
-        threads = [threading.Thread(target=carry, args=(connection, *ends[2 * number:2 * number + 2]))
-                   for number, connection in enumerate(connections)]
-        for thread in threads:
-            thread.start()
-        for thread in threads:
-            thread.join()
-    for pipe in pipes:
-        os.remove(pipe)
-    return run.wait(LIMIT)
-
-
-class Bridge:
-    """Listens at the socket, and starts the program for each connection, one after the other."""
-
-    def __init__(self, place, has_pipes):
-        self.place, self.has_pipes, self.statuses, self.is_over = place, has_pipes, [], False
-        self.listener = socket.socket(socket.AF_UNIX)
-        self.listener.bind(place.socket)
-        self.listener.listen()
-        self.thread = threading.Thread(target=self.work)
-        self.thread.start()
-
-    def work(self):
-        while True:
-            connection, _ = self.listener.accept()
-            with connection:
-                if self.is_over:
-                    return
-                self.statuses.append(self.serve(connection))
-
-    def serve(self, connection):
-        if not self.has_pipes:
-            return subprocess.run(self.place.command(), stdin=connection, stdout=connection, stderr=subprocess.DEVNULL,
-                                  timeout=LIMIT).returncode
-        return serve_all(self.place, [connection])
-
-    def close(self):
-        """Ends the bridge: what is wrong with the statuses of its programs."""
-        self.is_over = True
-        with socket.socket(socket.AF_UNIX) as last:
-            last.connect(self.place.socket)
-        self.thread.join(LIMIT)
-        self.listener.close()
-        os.remove(self.place.socket)
-        return [] if self.statuses and not any(self.statuses) else [f"the program ended with {self.statuses}"]
-
-
-def done(words, out=None):
+def done(words, out=None, status=0):
     """Runs a client: what is wrong with its status, or with its output if one is wanted."""
-    run = subprocess.run(words, capture_output=True, stdin=subprocess.DEVNULL, timeout=LIMIT)
-    if run.returncode != 0:
-        return [f"{words[0]} ends with {run.returncode}: {run.stderr.decode(errors='replace').strip()}"]
-    return [] if out is None or run.stdout == out else [f"{words[0]} prints {run.stdout!r} in place of {out!r}"]
+    found, printed, line = run_of(words)
+    if found != status:
+        ends = f"no end after {LIMIT} s" if found is None else f"ends with {found}"
+        return [f"{' '.join(words[:2])}: {ends}: {line.decode(errors='replace').strip()}"]
+    return [] if out is None or printed == out else [f"{words[0]} prints {printed!r} in place of {out!r}"]
 
 
 def writes(place, offset, data):
@@ -162,21 +100,53 @@ def writes(place, offset, data):
     return data
 
 
-def nbdinfo(place, to):
-    """The size of the export, and the list of exports."""
-    return done(["nbdinfo", "--size", *to], f"{SIZE}\n".encode())
+def reads_all(place, words):
+    """A client that reads everything into the file."""
+    with contextlib.suppress(FileNotFoundError):
+        os.remove(place.file)
+    if faults := done(words):
+        return faults
+    with open(place.file, "rb") as file:
+        return [] if file.read() == place.volume.read(0, SIZE) else [f"{words[0]} reads other data"]
+
+
+def writes_all(place, words):
+    """A client that writes everything from the file, while nothing is protected."""
+    place.words = options()
+    with open(place.file, "wb") as file:
+        file.write(writes(place, 0, place.volume.read(0, SIZE)[::-1]))
+    return done(words)
+
+
+def shows(words):
+    """A run of nbdinfo that has to show the only export."""
+    status, printed, line = run_of(words)
+    if status != 0:
+        return [f"{words} ends with {status}: {line.decode(errors='replace').strip()}"]
+    wanted = ['export="":', f"export-size: {SIZE} (8M)", "can_flush: true", "can_fua: true", "can_multi_conn: false",
+              "is_read_only: false", "can_trim: false", "can_zero: false"]
+    return [f"{words} doesn't print {text!r}" for text in wanted if text not in printed.decode(errors="replace")]
+
+
+def nbdinfo(_place, to):
+    """The size of the export, what it can, and what kind of data it has."""
+    return done(["nbdinfo", "--size", *to], f"{SIZE}\n".encode()) + shows(["nbdinfo", *to])
+
+
+def nbdinfo_list(_place, to):
+    """The list of exports."""
+    return shows(["nbdinfo", "--list", *to])
 
 
 def nbdcopy(place, to):
     """Everything is read into a file, changed there, and copied back while nothing is protected."""
-    faults = done(["nbdcopy", *to, place.file])
-    with open(place.file, "rb") as file:
-        found = file.read()
-    faults += [] if found == place.volume.read(0, SIZE) else ["nbdcopy reads other data"]
-    place.words = options()
-    with open(place.file, "wb") as file:
-        file.write(writes(place, 0, found[::-1]))
-    return faults + done(["nbdcopy", place.file, *to])
+    return reads_all(place, ["nbdcopy", *to, place.file]) + writes_all(place, ["nbdcopy", "--flush", place.file, *to])
+
+
+def nbdcopy_many(place, to):
+    """The same with 64 small requests under way at a time, of which the server takes one after the other."""
+    many = ["--requests=64", "--request-size=16384"]
+    return reads_all(place, ["nbdcopy", *many, *to, place.file]) + writes_all(place, ["nbdcopy", *many, place.file, *to])
 
 
 def connecting(to):
@@ -187,11 +157,22 @@ def nbdsh(place, to):
     """A write, a flush and a read, by libnbd's calls."""
     data = writes(place, 4096, bytes([PATTERN]) * 8192)
     return done(["nbdsh", "-c", connecting(to), "-c", f"h.pwrite(bytes([{PATTERN}]) * 8192, 4096)", "-c", "h.flush()",
-                 "-c", "print(h.pread(512, 4096)[:4] + h.pread(512, 0)[:4])", "-c", "h.shutdown()"],
-                f"{bytes(data[:4]) + place.volume.read(0, 512)[:4]!r}\n".encode())
+                 "-c", "print((h.pread(512, 4096)[:4] + h.pread(512, 0)[:4]).hex())", "-c", "h.shutdown()"],
+                f"{(data[:4] + place.volume.read(0, 512)[:4]).hex()}\n".encode())
 
 
-def nbdsh_denied(place, to):
+def nbdsh_newer(place, to):
+    """TLS, structured replies and block status are asked for, and not there; then a write with FUA and a read."""
+    data = writes(place, 4096, bytes([PATTERN]) * 512)
+    shown = ("h.get_tls_negotiated(), h.get_structured_replies_negotiated(), h.can_meta_context('base:allocation'), "
+             "h.can_fua(), h.can_multi_conn()")
+    return done(["nbdsh", "-c", "h.set_tls(nbd.TLS_ALLOW)", "-c", "h.add_meta_context('base:allocation')", "-c",
+                 connecting(to), "-c", f"print({shown})", "-c", f"h.pwrite(bytes([{PATTERN}]) * 512, 4096, nbd.CMD_FLAG_FUA)",
+                 "-c", "print(h.pread(512, 4096)[:4].hex())", "-c", "h.shutdown()"],
+                f"False False False True False\n{data[:4].hex()}\n".encode())
+
+
+def nbdsh_denied(_place, to):
     """A write to the hidden volume."""
     attempt = f"try:\n    h.pwrite(bytes(512), {SIZE - 512})\nexcept nbd.Error as why:\n    print(why.errnum)"
     return done(["nbdsh", "-c", connecting(to), "-c", attempt, "-c", "h.shutdown()"], f"{errno.EPERM}\n".encode())
@@ -209,15 +190,29 @@ def nbdfuse(place, to):
     return faults
 
 
+def nbdfuse_denied(place, to):
+    """A write to the hidden volume by that file."""
+    with mounted(place, to) as path, open(path, "r+b", buffering=0) as file:
+        try:
+            file.seek(SIZE - 4096)
+            file.write(bytes(4096))
+            os.fsync(file.fileno())
+        except OSError as why:
+            return [] if why.errno == errno.EPERM else [f"nbdfuse tells {why}"]
+    return ["nbdfuse tells no error"]
+
+
 def file_system(place, to):
     """A vfat file system in that file, with a file of its own that is read again. What the volume holds then is what the
     mounted file shows."""
     text = os.path.join(place.folder, "text")
-    with open(text, "wb") as file:
-        file.write(bytes(range(256)) * 1000)
+    write(text, bytes(range(256)) * 1000)
     with mounted(place, to) as path:
-        faults = done(["mkfs.vfat", path]) + done(["mcopy", "-i", path, text, "::TEXT"])
+        # the file system ends before the hidden volume
+        faults = done(["mkfs.vfat", path, str((SIZE - HIDDEN) // 1024)])
+        faults += done(["mcopy", "-i", path, text, "::TEXT"])
         faults += done(["mtype", "-i", path, "::TEXT"], bytes(range(256)) * 1000)
+        faults += done(["fsck.vfat", "-n", path])
         with open(path, "rb") as file:
             os.fsync(file.fileno())
             writes(place, 0, file.read(SIZE - HIDDEN))
@@ -229,7 +224,7 @@ def mounted(place, to):
     """The file that nbdfuse shows."""
     folder = os.path.join(place.folder, "mounted")
     os.makedirs(folder, exist_ok=True)
-    with subprocess.Popen(["nbdfuse", folder, *to], stdin=subprocess.DEVNULL) as run:
+    with subprocess.Popen(["nbdfuse", folder, *to], stdin=subprocess.DEVNULL, stderr=subprocess.DEVNULL) as run:
         path = os.path.join(folder, "nbd")
         for _ in range(1000):
             if os.path.exists(path) or run.poll() is not None:
@@ -244,11 +239,16 @@ def mounted(place, to):
 
 def qemu_img(place, to):
     """Everything is read into a file, and compared with it."""
-    faults = done(["qemu-img", "convert", "-f", "raw", "-O", "raw", *to, place.file])
-    with open(place.file, "rb") as file:
-        found = file.read()
-    faults += [] if found == place.volume.read(0, SIZE) else ["qemu-img reads other data"]
+    faults = done(["qemu-img", "info", *to])
+    faults += reads_all(place, ["qemu-img", "convert", "-f", "raw", "-O", "raw", *to, place.file])
     return faults + done(["qemu-img", "compare", "-q", "-f", "raw", "-F", "raw", place.file, *to])
+
+
+def qemu_img_many(place, to):
+    """Everything is read and written out of order, by eight workers, at one connection. The server takes their requests one
+    after the other."""
+    convert = ["qemu-img", "convert", "-m", "8", "-W", "-f", "raw", "-O", "raw"]
+    return reads_all(place, [*convert, *to, place.file]) + writes_all(place, [*convert, "-n", place.file, *to])
 
 
 def qemu_io(place, to):
@@ -258,11 +258,10 @@ def qemu_io(place, to):
                  "-c", f"read -P {PATTERN} 64k 128k"])
 
 
-def qemu_io_denied(place, to):
+def qemu_io_denied(_place, to):
     """A write to the hidden volume."""
-    run = subprocess.run(["qemu-io", "-f", "raw", *to, "-c", f"write {SIZE - 512} 512"], capture_output=True,
-                         stdin=subprocess.DEVNULL, timeout=LIMIT, check=False)
-    told = (run.stdout + run.stderr).decode(errors="replace")
+    _, printed, line = run_of(["qemu-io", "-f", "raw", *to, "-c", f"write {SIZE - 512} 512"])
+    told = (printed + line).decode(errors="replace")
     return [] if os.strerror(errno.EPERM) in told else [f"qemu-io prints {told!r}"]
 
 
@@ -274,50 +273,57 @@ def fio(place, to):
     return faults
 
 
-def our_own(place, to):
-    """The handshake with what isn't there asked first, a write, a flush and a read."""
-    data = bytes([PATTERN]) * 4096
+def our_own_client(place, to, use):
+    """A session of our own client at the socket."""
     with socket.socket(socket.AF_UNIX) as connection:
         connection.connect(to[0].partition("socket=")[2])
         with connection.makefile("rb") as of:
             client = NewstyleClient(connection.sendall, of.read)
             try:
                 faults = [] if client.begin(GO) == SIZE else ["another size of the export"]
-                client.request(WRITE, 4096, 4096, data)
-                client.request(FLUSH)
-                writes(place, 4096, data)
-                faults += [] if client.request(READ, 0, 8192) == place.volume.read(0, 8192) else ["other data"]
+                faults += use(client)
                 client.end()
                 return faults + ([] if of.read() == b"" else ["bytes after the last reply"])
             except (Unexpected, OSError) as why:
                 return [str(why)]
 
 
+def our_own(place, to):
+    """The handshake with what isn't there asked first, a write, a flush and a read."""
+    def use(client):
+        data = bytes([PATTERN]) * 4096
+        client.request(WRITE, 4096, 4096, data)
+        client.request(FLUSH)
+        writes(place, 4096, data)
+        return [] if client.request(READ, 0, 8192) == place.volume.read(0, 8192) else ["other data"]
+
+    return our_own_client(place, to, use)
+
+
 def our_own_denied(place, to):
     """A write to the hidden volume."""
-    with socket.socket(socket.AF_UNIX) as connection:
-        connection.connect(to[0].partition("socket=")[2])
-        with connection.makefile("rb") as of:
-            client = NewstyleClient(connection.sendall, of.read)
-            try:
-                client.begin(GO)
-                connection.sendall(head(WRITE, SIZE - 512, 512, 1) + bytes(512))
-                client.take(reply(PERM, 1), "a write to the hidden volume")
-                client.end()
-                return []
-            except (Unexpected, OSError) as why:
-                return [str(why)]
+    def use(client):
+        client.put(head(WRITE, SIZE - 512, 512, 1) + bytes(512))
+        client.take(reply(PERM, 1), "a write to the hidden volume")
+        return []
+
+    return our_own_client(place, to, use)
 
 
 # Each client with the programs and the package that it needs, whether it can start the program itself, and what it does.
 CLIENTS = [
     (["nbdinfo"], "libnbd-bin", False, nbdinfo),
+    (["nbdinfo"], "libnbd-bin", False, nbdinfo_list),
     (["nbdcopy"], "libnbd-bin", False, nbdcopy),
+    (["nbdcopy"], "libnbd-bin", False, nbdcopy_many),
     (["nbdsh"], "python3-libnbd", True, nbdsh),
+    (["nbdsh"], "python3-libnbd", True, nbdsh_newer),
     (["nbdsh"], "python3-libnbd", True, nbdsh_denied),
-    (["nbdfuse"], "nbdfuse", True, nbdfuse),
-    (["nbdfuse", "mkfs.vfat", "mcopy"], "nbdfuse, dosfstools, mtools", True, file_system),
+    (["nbdfuse"], "libnbd-bin, fuse3", True, nbdfuse),
+    (["nbdfuse"], "libnbd-bin, fuse3", True, nbdfuse_denied),
+    (["nbdfuse", "mkfs.vfat", "mcopy"], "libnbd-bin, fuse3, dosfstools, mtools", True, file_system),
     (["qemu-img"], "qemu-utils", False, qemu_img),
+    (["qemu-img"], "qemu-utils", False, qemu_img_many),
     (["qemu-io"], "qemu-utils", False, qemu_io),
     (["qemu-io"], "qemu-utils", False, qemu_io_denied),
     (["fio"], "fio", False, fio),
@@ -326,6 +332,13 @@ CLIENTS = [
 # Clients that write the same bytes to the same places, so two of them may run at once.
 AT_ONCE = [(["nbdsh"], nbdsh), (["qemu-io"], qemu_io)]
 
+# Clients that ask for more than this server has.
+ASKING = ("nbdinfo", "nbdsh-newer", "qemu-img")
+
+# Clients that abort their handshake and close the connection without waiting for the reply. So its write may fail, and the
+# program ends with 12 then.
+LEAVING = ("nbdinfo-list",)
+
 
 def by_socket(rows, place, name, work, has_pipes):
     place.begin()
@@ -333,35 +346,34 @@ def by_socket(rows, place, name, work, has_pipes):
     try:
         faults = work(place, [uri_of(place.socket)])
     finally:
-        more = bridge.close()
+        more = bridge.close((0, 12) if name in LEAVING else (0,))
     note(rows, f"{name} at a socket{', named pipes' if has_pipes else ''}", place, faults, more)
+    if has_pipes and name in ASKING:
+        refused(rows, name, [one.options() for one in bridge.heard])
+
+
+def refused(rows, name, sessions):
+    """What a client asked for in its sessions that isn't offered was refused, and it went on."""
+    faults = []
+    for asked in sessions:
+        faults += [f"option {number} has the replies {kinds}" for number, kinds in asked
+                   if number not in OFFERED and kinds != [UNSUPPORTED]]
+    if not any(number == STRUCTURED_REPLY for asked in sessions for number, _ in asked):
+        faults.append("it doesn't ask for structured replies")
+    if not any(asked and asked[-1] == (GO, [INFORMATION, ACK]) for asked in sessions):
+        faults.append("it doesn't go on to a session")
+    rows.note(f"{name} is refused what isn't offered, and goes on", faults)
+    print(f"{name} asks for: {options_text(sessions[0]) if sessions else 'nothing'}", flush=True)
 
 
 def two_at_once(rows, place, name, works):
     """Two clients of one run of the program, each at a socket of its own."""
     place.begin()
     paths = [f"{place.socket}{number}" for number in range(len(works))]
-    listeners, statuses = [socket.socket(socket.AF_UNIX) for _ in works], []
-    for listener, path in zip(listeners, paths):
-        listener.bind(path)
-        listener.listen()
-
-    def serve():
-        connections = [listener.accept()[0] for listener in listeners]
-        statuses.append(serve_all(place, connections))
-        for connection in connections:
-            connection.close()
-
-    server = threading.Thread(target=serve)
-    server.start()
+    end = serve_once(place, paths)
     with ThreadPoolExecutor(len(works)) as pool:
         found = list(pool.map(lambda one: one[0](place, [uri_of(one[1])]), zip(works, paths)))
-    server.join(LIMIT)
-    for listener, path in zip(listeners, paths):
-        listener.close()
-        os.remove(path)
-    faults = [fault for one in found for fault in one]
-    note(rows, f"{name} at once", place, faults, [] if statuses == [0] else [f"the program ended with {statuses}"])
+    note(rows, f"{name} at once", place, [fault for one in found for fault in one], end())
 
 
 def note(rows, name, place, faults, more=()):
@@ -372,6 +384,8 @@ def missing(programs):
     """Why these programs can't run."""
     if "nbdfuse" in programs and not os.path.exists("/dev/fuse"):
         return "there is no FUSE here"
+    if "nbdsh" in programs and shutil.which("nbdsh") and python_of_libnbd() is None:
+        return "no Python here has the module nbd"
     return ", ".join(f"{program} isn't installed" for program in programs if shutil.which(program) is None)
 
 

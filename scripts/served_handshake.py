@@ -140,11 +140,11 @@ class NewstyleClient:
         return found
 
     def begin(self, by=GO):
-        """The handshake of a usual client: TLS and structured replies first, which this server doesn't have. Gives
-        the size of the export."""
+        """The handshake of a usual client: TLS, structured replies, metadata contexts and extended headers first, which this
+        server doesn't have. Gives the size of the export."""
         self.take(GREETING, "greeting")
         self.put(struct.pack(">I", FIXED_NEWSTYLE | NO_ZEROES))
-        for number in (START_TLS, STRUCTURED_REPLY, 10, 0xffffffff):
+        for number in (START_TLS, STRUCTURED_REPLY, 9, 10, 11, 0xffffffff):
             if self.ask_option(number) != [(UNSUPPORTED, b"")]:
                 raise Unexpected(f"option {number} is supported")
         if self.ask_option(LIST) != [(SERVER, bytes(4)), (ACK, b"")]:
