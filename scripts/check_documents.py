@@ -6,7 +6,8 @@
 PROGRAM defaults to crates/vcserve/out/vcserve, and is `vcserve` in the examples. The examples of a page run in their
 order in one folder, as a reader would type them, each by bash. What one prints is the block of text behind it; one
 without such a block may print anything. Their home folder has a password in `.disk-password`. An example that begins a
-line with a program that isn't installed is left out, and told.
+line with a program that isn't installed or can't run here is left out, and told: none of the clients of other people that
+the protocol's page shows is needed.
 
 The status is 0 if all examples agree, 1 if one differs, and 77 if the package `cryptography` is missing, which the
 modules that it shares with other scripts need.
@@ -17,6 +18,7 @@ import subprocess
 import sys
 import tempfile
 
+from other_clients import environment_of_libnbd, why_missing
 from program_rows import LIMIT, Rows
 from speed import PROGRAM
 
@@ -26,12 +28,15 @@ EXAMPLE = re.compile(r"^```sh\n(.*?)^```\n(?:\n```text\n(.*?)^```\n)?", re.DOTAL
 
 
 def missing(lines, environment):
-    """The first program, at the beginning of a line, that isn't installed."""
+    """What is missing of the programs that begin a line, or None."""
     for line in lines.replace("\\\n", " ").splitlines():
         name = line.partition(" ")[0]
-        found = subprocess.run(["bash", "-c", 'type "$0"', name], capture_output=True, env=environment, check=False)
-        if name and found.returncode:
-            return name
+        if not name or "=" in name:
+            continue
+        if subprocess.run(["bash", "-c", 'type "$0"', name], capture_output=True, env=environment, check=False).returncode:
+            return f"{name} isn't installed"
+        if why := why_missing(name):
+            return f"{name}: {why}"
     return None
 
 
@@ -45,9 +50,8 @@ def examples(page):
 def run_page(rows, page, folder, environment):
     for line, lines, shown in examples(page):
         name = f"{page}, line {line}"
-        program = missing(lines, environment)
-        if program:
-            rows.leave_out(name, f"{program} isn't installed")
+        if why := missing(lines, environment):
+            rows.leave_out(name, why)
             continue
         try:
             run = subprocess.run(["bash", "-c", lines], cwd=folder, env=environment, stdin=subprocess.DEVNULL,
@@ -74,8 +78,8 @@ def main(words):
             os.symlink(program, os.path.join(tools, "vcserve"))
             with open(os.path.join(home, ".disk-password"), "w", encoding="utf-8") as file:
                 file.write("a password of the disk\n")
-            path = f"{tools}:{os.environ['PATH']}"
-            run_page(rows, page, home, {**os.environ, "HOME": home, "PATH": path})
+            environment = environment_of_libnbd()
+            run_page(rows, page, home, {**environment, "HOME": home, "PATH": f"{tools}:{environment['PATH']}"})
     print(f"documents: {rows.rows - rows.wrong} passed, {rows.wrong} failed")
     return 1 if rows.wrong else 0
 

@@ -31,7 +31,7 @@ import time
 from concurrent.futures import ThreadPoolExecutor
 
 from check_hidden import write
-from libnbd_python import environment_of_libnbd, python_of_libnbd
+from other_clients import environment_of_libnbd, why_missing
 from program_rows import LIMIT, Rows
 from served_bridge import Bridge, options_text, serve_once, uri_of
 from served_client import serve_words
@@ -382,11 +382,8 @@ def note(rows, name, place, faults, more=()):
 
 def missing(programs):
     """Why these programs can't run."""
-    if "nbdfuse" in programs and not os.path.exists("/dev/fuse"):
-        return "there is no FUSE here"
-    if "nbdsh" in programs and shutil.which("nbdsh") and python_of_libnbd() is None:
-        return "no Python here has the module nbd"
-    return ", ".join(f"{program} isn't installed" for program in programs if shutil.which(program) is None)
+    reasons = [f"{program} isn't installed" if shutil.which(program) is None else why_missing(program) for program in programs]
+    return ", ".join(filter(None, reasons))
 
 
 def main(words):

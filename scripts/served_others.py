@@ -11,7 +11,7 @@ import subprocess
 import sys
 
 from independent_container import GROUP, make
-from libnbd_python import python_of_libnbd
+from other_clients import python_of_libnbd
 from speed import PASSWORD, best
 
 MIB = 1 << 20
