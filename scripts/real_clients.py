@@ -268,7 +268,7 @@ def qemu_io_denied(_place, to):
 def fio(place, to):
     """Random reads and writes of the first MiB, each verified. The container isn't compared: its data are fio's."""
     faults = done(["fio", "--name=vcserve", "--ioengine=nbd", f"--uri={to[0]}", "--rw=randrw", "--bs=4k", "--size=1m",
-                   "--verify=crc32c", "--iodepth=4"])
+                   "--verify=crc32c", "--verify_state_save=0", "--iodepth=4"])
     place.begin()
     return faults
 
