@@ -19,6 +19,10 @@ racing       by the clock, on an idle machine too: `cat` with a wrong password a
              headers: four derivations by 4 workers, of which none stops, against the same on one
              processor, which is what one worker would take, and against hashlib's four derivations
              one after the other. What the machine gives is told by four programs that run at once
+dumping      by the clock, on an idle machine: `info` with PIM 0, with the right and with a wrong password, against
+             `cryptsetup tcryptDump --veracrypt` of the same container. cryptsetup takes ciphers from the kernel. If that
+             has none for it, it is given a PIM of 485, which is as many iterations, and finds AES by the first hash that
+             it tries; it can't try a wrong password then
 formatting   `format` of 256 MiB with PIM 1, in all against `dd` from /dev/zero with conv=fsync by
              the clock; and less `format` of the smallest container, which has the same
              derivations, against OpenSSL's ChaCha20
@@ -122,9 +126,9 @@ def failing(program, folder):
     print(f"  hashlib's two derivations {1e3 * theirs:.1f} ms, ratio {ours / theirs:.2f}")
 
 
-def clock_time(words, status=0, preexec_fn=None):
+def clock_time(words, status=0, preexec_fn=None, given=b""):
     begin = time.monotonic()
-    run = subprocess.run(words, stdin=subprocess.DEVNULL, capture_output=True, preexec_fn=preexec_fn)
+    run = subprocess.run(words, input=given, capture_output=True, preexec_fn=preexec_fn)
     if run.returncode != status:
         sys.exit(f"status {run.returncode} in place of {status}: {' '.join(words)}")
     return time.monotonic() - begin
@@ -157,6 +161,36 @@ def racing(program, folder):
     print(f"  on one processor {alone:.3f} s, ratio {wrong / alone:.2f} (at most 0.30 on four processors, 0.55 on two)")
     print(f"  four programs at once, each with one of four equal derivations: ratio {four / (4 * one):.2f}")
     print(f"  hashlib's four derivations {theirs:.3f} s, ratio {wrong / theirs:.2f}")
+
+
+def dump_of(tool, path, password):
+    """cryptsetup's arguments for a dump, their status, and how it is told; None if it lacks ciphers that it would try."""
+    for how, more in [("", []), (" by a PIM of 485", ["--veracrypt-pim", "485"])]:
+        words = [tool, "tcryptDump", "--veracrypt", *more, path]
+        run = subprocess.run(words, input=password.encode(), capture_output=True)
+        if b"kernel crypto interface" not in run.stderr:
+            return words, run.returncode, how
+    return None
+
+
+def dumping(program, folder):
+    tool = shutil.which("cryptsetup") or shutil.which("cryptsetup", path="/sbin:/usr/sbin")
+    if tool is None:
+        print("dumping: not measured, cryptsetup is missing")
+        return
+    path = os.path.join(folder, "dumping.vc")
+    make(path, 2 * GROUP + SECTOR, PASSWORD, 0)
+    for name, password, status in [("the right password", PASSWORD, 0), ("a wrong password", "wrong horse", 3)]:
+        words, found = [program, "info", path, "--password", password], dump_of(tool, path, password)
+        if found is None:
+            print(f"dumping: {name} {best(LONG_TURNS, lambda: clock_time(words, status))[0]:.3f} s by the clock")
+            print("  cryptsetup: not measured, it lacks ciphers that it would try")
+            continue
+        dump, its_status, how = found
+        ours, theirs = best(LONG_TURNS, lambda: clock_time(words, status),
+                            lambda: clock_time(dump, its_status, given=password.encode()))
+        print(f"dumping: {name} {ours:.3f} s by the clock")
+        print(f"  cryptsetup{how} {theirs:.3f} s, ratio {ours / theirs:.2f} (at most 0.50)")
 
 
 def discarding_time(words, processors):
@@ -361,6 +395,7 @@ MEASURES = {
     "opening": opening,
     "failing": failing,
     "racing": racing,
+    "dumping": dumping,
     "formatting": formatting,
     "deciphering": deciphering,
     "threads": threads,
