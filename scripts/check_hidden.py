@@ -189,10 +189,11 @@ def cryptsetup(rows, folder):
             for more, password in [([], PASSWORD), (["--tcrypt-hidden"], HIDDEN_PASSWORD),
                                    (["--tcrypt-backup"], PASSWORD),
                                    (["--tcrypt-hidden", "--tcrypt-backup"], HIDDEN_PASSWORD)]:
-                run = subprocess.run([program, "tcryptDump", "--veracrypt", "--veracrypt-pim", "1", *more, path],
-                                     input=password.encode(), stdout=subprocess.PIPE, stderr=subprocess.PIPE)
+                # with the hash, since a kernel without ciphers for it makes it stop at the first one that it can't try
+                words = [program, "tcryptDump", "--veracrypt", "--veracrypt-pim", "1", "--hash", prf, *more, path]
+                run = subprocess.run(words, input=password.encode(), stdout=subprocess.PIPE, stderr=subprocess.PIPE)
                 if b"not supported" in run.stderr or b"not available" in run.stderr:
-                    rows.leave_out(f"cryptsetup: {prf} {sector} {more}", run.stderr.decode().strip())
+                    rows.leave_out(f"cryptsetup: {prf} {sector} {' '.join(more)}", run.stderr.decode().splitlines()[0])
                     continue
                 rows.note(f"cryptsetup: {prf} {sector} {' '.join(more)}",
                           [] if run.returncode == 0 else [run.stderr.decode().strip()])
