@@ -14,6 +14,7 @@ modules that it shares with other scripts need.
 """
 import os
 import re
+import signal
 import subprocess
 import sys
 import tempfile
@@ -47,22 +48,32 @@ def examples(page):
     return [(text.count("\n", 0, found.start()) + 1, *found.groups()) for found in EXAMPLE.finditer(text)]
 
 
+def run_example(lines, folder, environment):
+    """The status of an example and what it printed. If it doesn't end, all that it began is ended, and there is no status."""
+    with subprocess.Popen(["bash", "-c", lines], cwd=folder, env=environment, stdin=subprocess.DEVNULL,
+                          stdout=subprocess.PIPE, stderr=subprocess.STDOUT, start_new_session=True) as run:
+        try:
+            printed, _ = run.communicate(timeout=LIMIT)
+        except subprocess.TimeoutExpired:
+            os.killpg(run.pid, signal.SIGKILL)
+            return None, b""
+    return run.returncode, printed
+
+
 def run_page(rows, page, folder, environment):
     for line, lines, shown in examples(page):
         name = f"{page}, line {line}"
         if why := missing(lines, environment):
             rows.leave_out(name, why)
             continue
-        try:
-            run = subprocess.run(["bash", "-c", lines], cwd=folder, env=environment, stdin=subprocess.DEVNULL,
-                                 stdout=subprocess.PIPE, stderr=subprocess.STDOUT, timeout=LIMIT, check=False)
-        except subprocess.TimeoutExpired:
+        status, printed = run_example(lines, folder, environment)
+        if status is None:
             rows.note(name, [f"no end after {LIMIT} s"])
             continue
         # a block of text ends with a line end, whether or not the output does
-        printed = run.stdout.decode().removesuffix("\n") + "\n"
+        printed = printed.decode().removesuffix("\n") + "\n"
         faults = [f"it prints {printed!r} in place of {shown!r}"] if shown is not None and printed != shown else []
-        rows.note(name, faults + ([] if run.returncode == 0 else [f"status {run.returncode}"]))
+        rows.note(name, faults + ([] if status == 0 else [f"status {status}"]))
 
 
 def main(words):
