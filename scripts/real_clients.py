@@ -333,7 +333,7 @@ CLIENTS = [
 AT_ONCE = [(["nbdsh"], nbdsh), (["qemu-io"], qemu_io)]
 
 # Clients that ask for more than this server has.
-ASKING = ("nbdinfo", "nbdsh-newer", "qemu-img")
+ASKING = ("nbdinfo", "nbdcopy", "nbdsh-newer", "nbdfuse", "qemu-img", "qemu-io", "fio")
 
 # Clients that abort their handshake and close the connection without waiting for the reply. So its write may fail, and the
 # program ends with 12 then.
