@@ -1,0 +1,2 @@
+-- a client whose requests were all done
+pub mod Ended

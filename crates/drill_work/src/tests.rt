@@ -1,0 +1,57 @@
+//! Drills. Counts and digests are those of `scripts/drill_model.py`.
+use crate::{Summary, drill};
+use vc_outside::{HoldGate, NoGate};
+
+// The summary of the drill of 7.
+const SEVEN: Summary = Summary {
+    reads: 5,
+    writes: 31,
+    sectors: 23_934,
+    digest: [
+        0xa8, 0x42, 0x2f, 0x3c, 0x2f, 0x64, 0xc0, 0xac, 0x06, 0xf4, 0x9f, 0xad, 0x07, 0x91, 0xaa,
+        0xb4, 0x33, 0x71, 0xf8, 0x98, 0xde, 0xbe, 0xf6, 0xbb, 0xb9, 0xcb, 0xa0, 0x79, 0xe9, 0x46,
+        0x5b, 0x76,
+    ],
+};
+
+// The summary of the drill of 0.
+const NOUGHT: Summary = Summary {
+    reads: 5,
+    writes: 31,
+    sectors: 21_424,
+    digest: [
+        0xbf, 0xb9, 0x49, 0xe8, 0x69, 0x80, 0xe7, 0xa1, 0x5c, 0x7f, 0xdf, 0x6b, 0x83, 0xf1, 0xf2,
+        0xcb, 0xd9, 0xfb, 0x42, 0xcc, 0x4a, 0x04, 0x89, 0x52, 0xe6, 0xf7, 0xaa, 0xda, 0xa5, 0x74,
+        0xd7, 0xe0,
+    ],
+};
+
+// The summary of the drill of the last number.
+const LAST: Summary = Summary {
+    reads: 10,
+    writes: 26,
+    sectors: 17_144,
+    digest: [
+        0xda, 0x37, 0xea, 0x03, 0x4b, 0x55, 0x48, 0xbb, 0xbc, 0x33, 0x03, 0x2c, 0x2d, 0xf7, 0xc6,
+        0x6d, 0xcb, 0x46, 0xf9, 0x08, 0xa8, 0xa3, 0xb6, 0xcc, 0xa2, 0x8b, 0x0b, 0x36, 0x7b, 0xaf,
+        0x0d, 0xff,
+    ],
+};
+
+#[test]
+fn the_summary_is_that_of_the_model(rt: HostRuntime) {
+    for (n, want) in [(7, SEVEN), (0, NOUGHT), (4_294_967_295, LAST)] {
+        let summary = drill(&rt, rt.alloc(), n, &NoGate);
+        assert_eq!(rt; summary, Ok(want), "drill {n}");
+    }
+}
+
+// Client 0 is held before it enciphers the first fragment of its first write, until client 1 has ended a write. By the
+// points of `io_queue`; each client's first request is a write.
+#[test]
+fn clients_are_served_side_by_side(rt: HostRuntime) {
+    let gate = HoldGate::new(1, 514, 1_000_000_000);
+    let summary = drill(&rt, rt.alloc(), 7, &gate);
+    assert_eq!(rt; summary, Ok(SEVEN));
+    assert!(rt; !gate.gave_up());
+}
