@@ -7,7 +7,7 @@ PROGRAM defaults to crates/vcserve/out/vcserve. It is not built here: `rt run` i
 builds it (README.md). Each row runs it once and compares the exit status, the
 standard output, the standard error and the container after it: the same bytes as before, or those
 that the command has to leave (check_format.py, check_hidden.py, check_damage.py, check_change.py, check_expand.py). Clients
-of `serve` are those of check_serve.py. Secrets in files and a person's terminal are tried by check_secrets.py and check_terminal.py. A row
+of `serve` are those of check_serve.py, and drills are in check_drill.py. Secrets in files and a person's terminal are tried by check_secrets.py and check_terminal.py. A row
 that is wrong is printed; the last line counts them. What can't be tried on this machine is printed too.
 
 The status is 1 if a row is wrong. Otherwise it is 77 if the package `cryptography` is missing,
@@ -23,6 +23,7 @@ import time
 
 import check_change
 import check_damage
+import check_drill
 import check_expand
 import check_format
 import check_hidden
@@ -440,6 +441,8 @@ def main(words):
         check_change.check(rows, folder)
         check_expand.check(rows, folder)
         check_serve.check(rows, folder)
+        with tempfile.TemporaryDirectory(dir=folder) as own:
+            check_drill.drills(rows, own)
         check_secrets.check(rows, small, folder)
         check_terminal.check(rows, small, folder)
         sparse(rows, folder)

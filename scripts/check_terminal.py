@@ -19,7 +19,7 @@ from program_rows import LIMIT, LINES, PASSWORD, differences, differences_left, 
 FORMAT = f"format|N|--size=262656|--password=x|--random={HEX}"
 MISTAKES = [
     # commands
-    ("dog", 2, "no such command: dog; there are format, hide, info, cat, passwd, restore, expand and serve"),
+    ("dog", 2, "no such command: dog; there are format, hide, info, cat, passwd, restore, expand, serve and drill"),
     ("dog|C", 2, "no such command: dog"),
     ("Info|C|--password=x", 2, "no such command: Info"),
     ("inf|C|--password=x", 2, "no such command: inf"),
@@ -31,7 +31,6 @@ MISTAKES = [
     ("C|info|--password=x", 2, "no such command: "),
     ("--version", 2, "no such command: --version"),
     ("-v", 2, "no such command: -v"),
-    ("drill|7", 2, "drill isn't built yet"),
     ("serve|C|--password=x", 2, "serve needs the files of 1 to 16 clients: -- INPUT OUTPUT .."),
     ("serve|C|--password=x|--" + "|/dev/null" * 34, 2, "serve needs the files of 1 to 16 clients"),
     ("serve|C|--password=x|--", 2, "serve needs the files of 1 to 16 clients: -- INPUT OUTPUT .."),
@@ -243,8 +242,6 @@ def mistakes(rows, small, folder):
             faults.append(f"{reasons[0]!r} doesn't have {reason!r}")
         if any(secret in told for secret in (HEX, "zebra", "horse", "a" * 129)):
             faults.append("a secret is told")
-        if "vcserve drill" in told:
-            faults.append("there is a synopsis of a command that isn't built")
         if os.path.exists(os.path.join(folder, "N")):
             faults.append("a container is left")
             os.remove(os.path.join(folder, "N"))
@@ -257,7 +254,7 @@ def help_at_terminal(rows, folder):
         status, out, told = at_terminal(rows.program, words, folder)
         lines = told.splitlines()
         wanted = [f"vcserve {name} " for name in ("format", "hide", "info", "cat", "passwd", "restore", "expand",
-                                                   "serve")]
+                                                   "serve", "drill")]
         faults = [] if (status, out) == (2, b"") else [f"status {status}"]
         faults += [] if lines[:1] == ["vcserve: usage"] else ["no first line"]
         faults += [f"no synopsis of {name}" for name in wanted if not any(name in line for line in lines[1:])]

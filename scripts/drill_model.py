@@ -71,6 +71,12 @@ def drill(number):
     return reads, writes, sectors, hashlib.sha256(b"".join(array)).hexdigest()
 
 
+def lines_of(number):
+    reads, writes, sectors, digest = drill(number)
+    return (f"drill {number}\nclients {CLIENTS}\nrequests {CLIENTS * REQUESTS}\nreads {reads}\nwrites {writes}\n"
+            f"sectors {sectors}\nplain {digest}\n")
+
+
 def number_of(text):
     number = int(text)
     if not 0 <= number < 1 << 32:
@@ -81,10 +87,7 @@ def number_of(text):
 def main():
     parser = argparse.ArgumentParser(description="What a drill comes to.")
     parser.add_argument("number", type=number_of)
-    number = parser.parse_args().number
-    reads, writes, sectors, digest = drill(number)
-    print(f"drill {number}\nclients {CLIENTS}\nrequests {CLIENTS * REQUESTS}\nreads {reads}\nwrites {writes}\n"
-          f"sectors {sectors}\nplain {digest}")
+    print(lines_of(parser.parse_args().number), end="")
 
 
 if __name__ == "__main__":

@@ -4,4 +4,6 @@
 #![tactic(auto)]
 
 #[cfg(test)]
+mod drills;
+#[cfg(test)]
 mod gates;

@@ -22,3 +22,5 @@ pub mod Serving
 pub mod Ends
 -- a volume that was opened, served and closed
 pub mod ServedVolume
+-- a call that runs a drill
+pub mod Drilling

@@ -24,5 +24,7 @@ pub mod Expand
 pub mod Commands
 -- what `serve` promises
 pub mod Serve
+-- what `drill` promises
+pub mod Drill
 -- definitions that only private contracts cite
 pub mod Laws

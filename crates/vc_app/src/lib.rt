@@ -7,8 +7,9 @@
 //! Everything streams: a call holds one buffer of 64 KiB, or for `cat` two of up to 1 MiB, whatever the container's size.
 //!
 //! `run_serve` serves clients over a container: it opens the volume, also with a hidden one that is protected, has
-//! `vol_server` serve the clients, syncs the container and writes a line for each client. `specs/Serve.antt` has its
-//! promise.
+//! `vol_server` serve the clients, syncs the container and writes a line for each client. It also runs a drill, which
+//! touches neither container nor clients, and writes its summary. `specs/Serve.antt` and `specs/Drill.antt` have its
+//! promises.
 //!
 //! What a command promises is a record in its own file of specs/, and what a promise means is said once, in
 //! specs/Promise.antt. Each command returns a result of its own; `status` alone turns it into a status.

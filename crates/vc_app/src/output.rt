@@ -1,9 +1,12 @@
-//! Output, written whole.
-ghost use Rattle.std.specs.Prelude.{◌≡◌, ◌≤◌, ◌-◌, length, IsErrOf, OnErr, OnOk};
+//! Output, written whole, and its lines.
+ghost use Rattle.std.specs.Prelude.{◌≡◌, ◌≤◌, ◌-◌, ◌++◌, length, IfSome, IsErrOf, OnErr, OnOk, string_bytes};
 ghost use Rattle.vc_base.specs.Faults.{HasCause};
 ghost use Rattle.vc_outside.specs.Told.{Grows, GrowsByFront};
+ghost use Rattle.vc_app.specs.Info.{text_line};
 
 use crate::counts::WorkError;
+use std::alloc::AllocError;
+use std::fmt::Display;
 use vc_outside::{OutError, Sink};
 
 /// Writes all bytes, in as many pieces as the sink takes them in. If it fails, a prefix of them was written.
@@ -26,4 +29,19 @@ pub fn write_all<O: Sink>(out: &mut O, bytes: &[u8]) -> Result<(), WorkError>
         at += taken;
     }
     Ok(())
+}
+
+/// Adds a name and a value, as a line.
+pub(crate) fn push_line<V: Display + Drop>(
+    text: &mut String,
+    name: &str,
+    value: V,
+) -> Result<(), AllocError>
+    ensures { OnOk result (IfSome (V.output value) (λ v.
+        string_bytes text.new ≡ string_bytes text.old ++ text_line name.now v)) }
+{
+    text.push_str(name)?;
+    text.push_str(" ")?;
+    text.write(value)?;
+    text.push_str("\n")
 }

@@ -1,5 +1,5 @@
-//! The top call of `serve`.
-ghost use Rattle.std.specs.Prelude.{◌≡◌, ◌≤◌, ◌⊎◌, ℕ, [], length, map, string_bytes, All, Contains, IfErr, IfOk, IfSome, MatchOption, Some, option_map, replicate};
+//! The top call of `serve` and `drill`.
+ghost use Rattle.std.specs.Prelude.{◌≡◌, ◌≤◌, ◌<◌, ◌^◌, ◌⊎◌, ℕ, [], length, map, string_bytes, All, Contains, IfErr, IfOk, IfSome, MatchOption, None, Some, option_map, replicate};
 ghost use Rattle.vc_base.specs.Faults.{HasCause, Rose};
 ghost use Rattle.cmd_words.specs.Meaning.{meaning};
 ghost use Rattle.cmd_words.specs.Ranges.{IsInRange};
@@ -13,12 +13,14 @@ ghost use Rattle.vc_header.specs.Header.{Meets};
 ghost use Rattle.vc_layout.specs.Layout.{IsContainerLength, IsSectorSize};
 ghost use Rattle.vc_outside.specs.Crash.{IsLasting, Outcomes, Stays};
 ghost use Rattle.vc_outside.specs.Told.{Grows, GrowsByFront};
+ghost use Rattle.vc_app.specs.Drill.{Answered, Drilled, drilled};
 ghost use Rattle.vc_app.specs.Laws.Opening.{IsFirst, Opening, RanFrom};
 ghost use Rattle.vc_app.specs.Serve.{asked, asked_by, call, ends_status, EndsBy, export_of, IsAfterSync, IsComplete, IsOfClient, IsOpening, Kept, lines, most_clients};
 
 use crate::serve::asked::Asked;
 use crate::serve::ends::write_ends;
 use crate::serve::opening::{memory_status, open_asked};
+use crate::serve::summary::{drill_number, write_drill};
 use crate::status::Status;
 use cascade_set::{Keyed, Keys};
 use cipher_base::UnitCipher;
@@ -39,6 +41,7 @@ use vol_server::{Served, serve, serve_hand};
 pub mod asked;
 mod ends;
 mod opening;
+mod summary;
 
 /// How many writes may be pending at a time: one of each client.
 const PENDING: u32 = 16;
@@ -65,11 +68,15 @@ where
     pub pass: Option<Pass<Core<D, Keyed>>>,
 }
 
-/// Carries out `serve` over a container, its clients and an output, and gives all of them back.
+/// Carries out `serve` over a container, its clients and an output, and gives all of them back, or `drill` over the
+/// output alone.
 ///
 /// The headers are opened, `--protect`'s too, and the clients' requests are answered by one history of the volume, after
 /// a handshake with each client if that is asked. Once all clients have ended, the container is synced, and a line for
 /// each client is written.
+///
+/// A drill serves clients of its own over a container in memory; neither the container nor the clients of the call are
+/// touched, however many there are. `gate` stands at its points too.
 pub fn run_serve<
     R: Threads + Wait + Sync,
     D: Store + Send,
@@ -86,7 +93,7 @@ pub fn run_serve<
     out: P,
     gate: &G,
 ) -> ServeEnd<D, I, O, P>
-    ensures kept { Kept ⟦<D as Store>⟧ ⟦<Keyed as UnitCipher>⟧ ⟦<I as Source>⟧ ⟦<O as Sink>⟧
+    ensures kept { Answered ⟦<D as Store>⟧ ⟦<Keyed as UnitCipher>⟧ ⟦<I as Source>⟧ ⟦<O as Sink>⟧ (drilled (map string_bytes words.now))
         (asked (map string_bytes words.now) (length clients.items)) (option_map (λ p. view p.seat) result.pass)
         (call ⟦<D as Store>⟧ ⟦<P as Sink>⟧ disk clients.items out result) }
     ensures opening { IsOpening (asked (map string_bytes words.now) (length clients.items))
@@ -115,20 +122,67 @@ fn carry_out<
     out: P,
     gate: &G,
 ) -> ServeEnd<D, I, O, P>
-    ensures { Kept ⟦<D as Store>⟧ ⟦<Keyed as UnitCipher>⟧ ⟦<I as Source>⟧ ⟦<O as Sink>⟧
+    ensures { Answered ⟦<D as Store>⟧ ⟦<Keyed as UnitCipher>⟧ ⟦<I as Source>⟧ ⟦<O as Sink>⟧ (drilled (map string_bytes words.now))
         (asked (map string_bytes words.now) (length clients.items)) (option_map (λ p. view p.seat) result.pass)
         (call ⟦<D as Store>⟧ ⟦<P as Sink>⟧ disk clients.items out result) }
 {
     match read_words(alloc, words) {
-        Ok(command) => match asked_of(command, &clients) {
-            Some(asked) => serve_asked(rt, alloc, &asked, disk, clients, out, gate),
-            None => idle_end(alloc, Status::Usage, disk, clients, out, None),
+        Ok(command) => match drill_number(&command) {
+            Some(n) => run_drill(rt, alloc, n, disk, clients, out, gate),
+            None => serve_or_refuse(rt, alloc, command, disk, clients, out, gate),
         },
         Err(error) => {
             let status = Status::from(error);
             idle_end(alloc, status, disk, clients, out, None)
         }
     }
+}
+
+// Serves the clients, if the command asks for it and their number is right.
+fn serve_or_refuse<
+    R: Threads + Wait + Sync,
+    D: Store + Send,
+    I: Source + Send,
+    O: Sink + Send,
+    P: Sink,
+    G: Gate,
+>(
+    rt: &R,
+    alloc: Global,
+    command: Command,
+    disk: D,
+    clients: Vec<Client<I, O>>,
+    out: P,
+    gate: &G,
+) -> ServeEnd<D, I, O, P>
+    requires { IsInRange (meaning command) }
+    ensures { Kept ⟦<D as Store>⟧ ⟦<Keyed as UnitCipher>⟧ ⟦<I as Source>⟧ ⟦<O as Sink>⟧
+        (asked_by (length clients.items) (meaning command)) (option_map (λ p. view p.seat) result.pass)
+        (call ⟦<D as Store>⟧ ⟦<P as Sink>⟧ disk clients.items out result) }
+{
+    match asked_of(command, &clients) {
+        Some(asked) => serve_asked(rt, alloc, &asked, disk, clients, out, gate),
+        None => idle_end(alloc, Status::Usage, disk, clients, out, None),
+    }
+}
+
+// Runs a drill, and gives everything else back.
+fn run_drill<R: Threads + Wait + Sync, D: Store, I, O, P: Sink, G: Gate>(
+    rt: &R,
+    alloc: Global,
+    n: u64,
+    disk: D,
+    clients: Vec<Client<I, O>>,
+    out: P,
+    gate: &G,
+) -> ServeEnd<D, I, O, P>
+    requires { n < 2 ^ 32 }
+    ensures pass { option_map (λ p. view p.seat) result.pass ≡ None }
+    ensures drilled { Drilled n (call ⟦<D as Store>⟧ ⟦<P as Sink>⟧ disk clients.items out result) }
+{
+    let mut out = out;
+    let status = write_drill(rt, alloc, n, &mut out, gate);
+    idle_end(alloc, status, disk, clients, out, None)
 }
 
 // What a command asks of a call with these clients.

@@ -33,7 +33,7 @@ use crate::clients::{Streams, are_pairs};
 use crate::container::{Refusal, leave, opened, show_progress, tell_refusal, tell_trouble};
 use crate::reasons::explain;
 use crate::secrets::{SecretError, overwrite, overwrite_secrets, warn, with_secrets};
-use crate::serve::serve;
+use crate::serve::{drill, serve};
 
 /// How the program ends.
 #[derive(Clone, Copy)]
@@ -167,8 +167,12 @@ fn has_right_files(all: &[String]) -> bool {
 }
 
 fn is_serve(words: &[String]) -> bool {
+    is_command(words, "serve")
+}
+
+fn is_command(words: &[String], name: &str) -> bool {
     match words.first() {
-        Some(word) => word.as_str() == "serve",
+        Some(word) => word.as_str() == name,
         None => false,
     }
 }
@@ -243,14 +247,20 @@ fn run_over_file<R: Files<File = File> + Print + Eprint + AllocGlobal + Threads 
     }
 }
 
-fn run_over_nothing<R: Print + Eprint + AllocGlobal + Threads + Sync>(
+fn run_over_nothing<R: Print + Eprint + AllocGlobal + Threads + Wait + Sync>(
     rt: &R,
     words: &[String],
     exposed: &[String],
     is_person: bool,
 ) -> Ending {
     warn(rt, exposed);
-    let (status, _) = call(rt, words, SureStore::new(Vec::new(rt.alloc())));
+    let disk = SureStore::new(Vec::new(rt.alloc()));
+    let status = if is_command(words, "drill") {
+        drill(rt, words, disk)
+    } else {
+        let (status, _) = call(rt, words, disk);
+        status
+    };
     ended(rt, Ending::Status(status), words, is_person)
 }
 

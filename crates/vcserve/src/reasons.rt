@@ -126,17 +126,11 @@ fn tell_no_path<R: Eprint>(rt: &R, words: &[String]) -> io::Result<()> {
     }
 }
 
-// A command that isn't built has no synopsis.
 fn tell_synopsis<R: Eprint>(rt: &R, command: &str) -> io::Result<()> {
     match synopsis_of(command) {
         Some(synopsis) => eprintln!(rt; "  {synopsis}"),
-        None if is_unbuilt(command) => eprintln!(rt; "  {command} isn't built yet"),
         None => Ok(()),
     }
-}
-
-fn is_unbuilt(command: &str) -> bool {
-    command == "drill"
 }
 
 fn explain_size<R: Eprint>(rt: &R, command: &str) -> io::Result<()> {
@@ -168,11 +162,9 @@ fn explain_usage<R: Eprint + AllocGlobal>(
     if is_help(words) {
         return tell_all(rt);
     }
-    // A command that is refused all the same isn't built, or has no clients.
+    // Of commands that are well written `serve` alone is refused, if it has no clients or too many.
     if read_words(rt.alloc(), words).is_ok() {
-        if command == "serve" {
-            eprintln!(rt; "  serve needs the files of 1 to 16 clients: -- INPUT OUTPUT ..")?;
-        }
+        eprintln!(rt; "  serve needs the files of 1 to 16 clients: -- INPUT OUTPUT ..")?;
         return tell_synopsis(rt, command);
     }
     match reason_of(rt.alloc(), words) {
@@ -188,7 +180,7 @@ fn tell_reason<R: Eprint>(rt: &R, reason: Reason<'_>) -> io::Result<()> {
         Reason::NoCommand(word) => {
             let name = name_in(word);
             eprintln!(rt;
-                "  no such command: {name}; there are format, hide, info, cat, passwd, restore, expand and serve"
+                "  no such command: {name}; there are format, hide, info, cat, passwd, restore, expand, serve and drill"
             )
         }
         Reason::NoOption(word, Some(nearest)) => {

@@ -21,12 +21,13 @@ pub(crate) fn synopsis_of(name: &str) -> Option<&'static str> {
         "serve" => {
             "vcserve serve PATH --password P [--pim N] [--kind KIND] [--backup] [--protect P] [--protect-pim N] [--helpers N] [--workers N] [--handshake] -- INPUT OUTPUT [INPUT OUTPUT ..]"
         }
+        "drill" => "vcserve drill N",
         _ => return None,
     };
     Some(text)
 }
 
 /// The commands that are built.
-pub(crate) const COMMANDS: [&str; 8] = [
-    "format", "hide", "info", "cat", "passwd", "restore", "expand", "serve",
+pub(crate) const COMMANDS: [&str; 9] = [
+    "format", "hide", "info", "cat", "passwd", "restore", "expand", "serve", "drill",
 ];

@@ -1,8 +1,8 @@
 //! `info`: what the opened header says.
-ghost use Rattle.std.specs.Prelude.{◌≡◌, ◌≤◌, ◌++◌, IfOk, IfSome, IsErrOf, OnOk, string_bytes};
+ghost use Rattle.std.specs.Prelude.{◌≡◌, ◌≤◌, IfOk, IsErrOf, OnOk, string_bytes};
 ghost use Rattle.kdf_hmac.specs.Pbkdf2.{IsPim};
 ghost use Rattle.vc_outside.specs.Told.{Grows, GrowsByFront};
-ghost use Rattle.vc_app.specs.Info.{info_status, promise, text_line, text_of};
+ghost use Rattle.vc_app.specs.Info.{info_status, promise, text_of};
 ghost use Rattle.vc_app.specs.declared.commands.info.InfoError.TheVariants.{Open, Work};
 ghost use Rattle.vc_app.specs.Promise.{Kept, seen};
 ghost use Rattle.vc_app.specs.Laws.Settled.{Settled};
@@ -10,10 +10,10 @@ ghost use Rattle.vc_app.specs.Status.{ended};
 
 use crate::access::Access;
 use crate::counts::{Counts, WorkError};
+use crate::output::push_line;
 use crate::status::Status;
 use header_try::{OpenError, Opened};
 use std::alloc::{AllocError, Global};
-use std::fmt::Display;
 use std::thread::Threads;
 use vc_outside::{Sink, Store};
 
@@ -104,15 +104,4 @@ fn text(alloc: Global, opened: &Opened) -> Result<String, AllocError>
     push_line(&mut text, "size", opened.fields.volume_size)?;
     push_line(&mut text, "sector", opened.fields.sector)?;
     Ok(text)
-}
-
-// Adds a name and a value, as a line.
-fn push_line<V: Display + Drop>(text: &mut String, name: &str, value: V) -> Result<(), AllocError>
-    ensures { OnOk result (IfSome (V.output value) (λ v.
-        string_bytes text.new ≡ string_bytes text.old ++ text_line name.now v)) }
-{
-    text.push_str(name)?;
-    text.push_str(" ")?;
-    text.write(value)?;
-    text.push_str("\n")
 }
