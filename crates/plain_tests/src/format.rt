@@ -149,7 +149,7 @@ fn each_algorithm_opens_with_each_function(rt: HostRuntime) -> Result<(), Fail> 
     Ok(())
 }
 
-// Status and command line. The last commands aren't built yet; the last row is one empty argument.
+// Status and command line. The commands near the end are those of `run_serve`; the last row is one empty argument.
 static REFUSED: &str = "\
 6;format|c1.vc|--size|0|--password|x|--random|@
 6;format|c1.vc|--size|262655|--password|x|--random|@

@@ -83,12 +83,12 @@ module _ {S C I O : Type 0} (store : StoreGhosts S) (cipher : CipherGhosts C) (s
   -- the arguments weren't read
   pub unread_answered : (arguments : List Text) (m : ℕ) (r : Result Command WordsError) (e : WordsError)
       (pass : Option (View (State S C) Entry)) (c : Call I O) → r ≡ Err e → (r ≡ Err words.Usage → line arguments ≡ None) → pass ≡ None
-      → Unserved c → c.new.disk_faults ≡ c.old.disk_faults → c.status ≡ words_status e
+      → Unserved c → c.new.disk_faults ≡ c.old.disk_faults → c.new.moment ≡ c.old.moment → c.status ≡ words_status e
       → Answered store cipher source sink (drilled arguments) (asked arguments m) pass c
-  unread_answered arguments m r words.Usage pass c error none is unserved same status =
+  unread_answered arguments m r words.Usage pass c error none is unserved same still status =
       by_drilled (drilled arguments) None (asked arguments m) pass c (drilled_none arguments (none error))
       (unread_kept store cipher source sink arguments m r words.Usage pass c error none is unserved same status)
-  unread_answered arguments m r words.NoMemory pass c error none is unserved same status = by_number (drilled arguments)
+  unread_answered arguments m r words.NoMemory pass c error none is unserved same still status = by_number (drilled arguments)
     where
       by_number : (x : Option ℕ) → Answered store cipher source sink x (asked arguments m) pass c
       by_number None = unread_kept store cipher source sink arguments m r words.NoMemory pass c error none is unserved same status
@@ -102,7 +102,8 @@ module _ {S C I O : Type 0} (store : StoreGhosts S) (cipher : CipherGhosts C) (s
             callers = unserved.idle.callers;
             clients = unserved.idle.clients;
             unchanged = unserved.unchanged;
-            later = unserved.later;
+            disk_faults = same;
+            moment = still;
             status = inr (inr status);
             printed = subst (λ (x : Option (List ℕ)). GrowsByFront c.old.contents x (drill_lines n)) (sym unserved.idle.quiet)
                 (front_of_none c.old.contents (drill_lines n));

@@ -1,5 +1,5 @@
--- The commands of this call, each with its promise: one line a command. Those that serve clients have none
--- here, and those that aren't built yet have none at all.
+-- The commands of this call, each with its promise: one line a command. Those of the other top call, `serve` and
+-- `drill`, have none here.
 --
 -- promise_of arguments        the promise of a command line
 use Rattle.std.specs.Prelude.{List, Option, Some, None}

@@ -6,7 +6,7 @@
 -- IsOfDrill s          a status of a drill
 -- Drilled n c          what holds of a call that ran the drill of n
 -- Answered ..          what holds of a call, by whether its arguments ask for a drill
-use Rattle.std.specs.Prelude.{◌≡◌, ◌⊎◌, ◌≤◌, ℕ, List, [], ◌++◌, Option, Some, None, codes, option_and_then}
+use Rattle.std.specs.Prelude.{◌≡◌, ◌⊎◌, ℕ, List, [], ◌++◌, Option, Some, None, codes, option_and_then}
 use Rattle.std.specs.Fmt.{decimal}
 use Rattle.cipher_base.specs.declared.unit.UnitCipher.{Ghosts as CipherGhosts}
 use Rattle.hex.specs.Hex.{encode_lower}
@@ -53,16 +53,17 @@ abbrev pub IsOfDrill : Status → Type 0
 IsOfDrill s = (s ≡ Done) ⊎ (s ≡ OutFault) ⊎ (s ≡ NoMemory)
 
 pub record Drilled {I O : Type 0} (n : ℕ) (c : Call I O) : Type 0 where
-  -- Nobody is served, and the container is as it was.
+  -- None of the call's clients is served, and the container is as it was: no call of it counts a failure or is an event.
   pub hands : c.hands ≡ []
   pub ends : c.ends ≡ []
   pub replies : c.replies ≡ []
   pub callers : c.callers ≡ []
   pub clients : c.after ≡ c.before
   pub unchanged : Unchanged c.old c.new
-  pub later : c.old.disk_faults ≤ c.new.disk_faults
+  pub disk_faults : c.new.disk_faults ≡ c.old.disk_faults
+  pub moment : c.new.moment ≡ c.old.moment
   pub status : IsOfDrill c.status
-  -- All lines were written with Done, and otherwise a part of them that begins with the first.
+  -- With Done all lines were written, otherwise a prefix of them.
   pub printed : GrowsByFront c.old.contents c.new.contents (drill_lines n)
   pub all_printed : c.status ≡ Done → Grows c.old.contents c.new.contents (drill_lines n)
   pub out_fault : HasCause c.old.out_faults c.new.out_faults (c.status ≡ OutFault)

@@ -1,6 +1,6 @@
 //! The top calls: from the arguments of a command line, a container and an output to a status.
 //!
-//! `run_plain` is what the program does, over any store and any sink. So far it carries out seven commands:
+//! `run_plain` is what the program does, over any store and any sink. It carries out seven commands:
 //! `format` makes a container, `hide` gives it a hidden volume, `info` shows a header, `cat` writes sectors of
 //! the plain volume, `passwd` gives a volume another password, `restore` writes a header from its backup, and
 //! `expand` makes a container longer.

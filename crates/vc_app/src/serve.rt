@@ -46,7 +46,8 @@ mod summary;
 /// How many writes may be pending at a time: one of each client.
 const PENDING: u32 = 16;
 
-/// How a call of `serve` ended. Item i of each list belongs to client i; they are empty if nobody was served.
+/// How a call of `serve` or `drill` ended. Item i of each list belongs to client i of the call; they are empty if none of
+/// these was served.
 #[derive(Drop)]
 pub struct ServeEnd<D: Store, I, O, P>
 where
@@ -68,15 +69,15 @@ where
     pub pass: Option<Pass<Core<D, Keyed>>>,
 }
 
-/// Carries out `serve` over a container, its clients and an output, and gives all of them back, or `drill` over the
-/// output alone.
+/// Carries out `serve` over a container, its clients and an output, or `drill`, which uses only the output. All of them
+/// are given back.
 ///
 /// The headers are opened, `--protect`'s too, and the clients' requests are answered by one history of the volume, after
 /// a handshake with each client if that is asked. Once all clients have ended, the container is synced, and a line for
 /// each client is written.
 ///
 /// A drill serves clients of its own over a container in memory; neither the container nor the clients of the call are
-/// touched, however many there are. `gate` stands at its points too.
+/// touched, however many there are. Its work passes the same points at `gate`.
 pub fn run_serve<
     R: Threads + Wait + Sync,
     D: Store + Send,

@@ -162,7 +162,7 @@ fn explain_usage<R: Eprint + AllocGlobal>(
     if is_help(words) {
         return tell_all(rt);
     }
-    // Of commands that are well written `serve` alone is refused, if it has no clients or too many.
+    // `serve` is the only valid command line that is refused here: without clients, or with too many.
     if read_words(rt.alloc(), words).is_ok() {
         eprintln!(rt; "  serve needs the files of 1 to 16 clients: -- INPUT OUTPUT ..")?;
         return tell_synopsis(rt, command);

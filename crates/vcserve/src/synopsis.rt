@@ -27,7 +27,7 @@ pub(crate) fn synopsis_of(name: &str) -> Option<&'static str> {
     Some(text)
 }
 
-/// The commands that are built.
+/// All commands.
 pub(crate) const COMMANDS: [&str; 9] = [
     "format", "hide", "info", "cat", "passwd", "restore", "expand", "serve", "drill",
 ];

@@ -16,7 +16,7 @@ use Rattle.drill_streams.specs.Done.{IsCalm, puts}
 use Rattle.drill_streams.specs.Drill.{requests, writes_of}
 use Rattle.drill_work.specs.Summary.{all_laid}
 
--- Whatever answered these requests so left their writes in its history, and lost nothing.
+-- Any history that such replies come from has the client's writes, each once and in order, and lost none.
 pub record IsDone (n c : ℕ) (how : End) (k : ℕ) (sent : List ℕ) : Type 0 where
   pub ended : how ≡ Done
   pub all : k ≡ 12

@@ -21,7 +21,7 @@ const CLIENTS: u32 = 3;
 
 const REQUESTS: u32 = 36;
 
-// The number of the drill that a command runs, if it is one.
+// The number of the drill that a command runs, if it is a `drill`.
 pub(crate) fn drill_number(command: &Command) -> Option<u64>
     requires { IsInRange (meaning command.now) }
     ensures number { result ≡ number_of (meaning command.now) }

@@ -31,4 +31,4 @@ returns-in-Err g c = let e = c.idle_end.ensures in
       unchanged = unmoved g.D.Store g.P.Sink c.args.disk c.idle_end.result.disk c.args.out c.idle_end.result.out e.disk;
       later = omega (arith, ap g.D.Store.faults e.disk);
     })
-    (ap g.D.Store.faults e.disk) (e.status ∙ c.from-status.ensures)
+    (ap g.D.Store.faults e.disk) (ap g.D.Store.moment e.disk) (e.status ∙ c.from-status.ensures)
