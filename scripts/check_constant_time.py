@@ -3,7 +3,7 @@
 
   check_constant_time.py [NAME ..]
 
-NAME is a row of CIPHERS in compare_ciphers.py, `aes` and `serpent` where none is named. A program
+NAME is a row of CIPHERS in compare_ciphers.py, `aes` and `serpent` if none is named. A program
 that enciphers and deciphers blocks under keys, in single blocks and in lists, is built as there
 and run by valgrind's memcheck. Beneath it a library marks all bytes that are read, keys and blocks
 alike, as undefined, and all that are written as defined again. Memcheck follows undefined bits

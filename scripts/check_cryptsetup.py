@@ -120,7 +120,7 @@ class Containers:
             self.rows.leave_out(name, f"cryptsetup lacks a cipher: {LACKS}")
 
     def check(self, name, prf="sha512", algorithm="aes", pim=1, before="", slots=tuple(row[0] for row in HEADERS)):
-        """Each of these headers, with `before` in front of the passwords."""
+        """Each of these headers, with `before` put before each password."""
         self.note(name, [(header[0], lambda header=header: self.differences(header, before + header[1], pim, prf, algorithm))
                          for header in HEADERS if header[0] in slots])
 

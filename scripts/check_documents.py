@@ -70,7 +70,7 @@ def run_page(rows, page, folder, environment):
         if status is None:
             rows.note(name, [f"no end after {LIMIT} s"])
             continue
-        # a block of text ends with a line end, whether or not the output does
+        # a block of text ends with a line end, even if the output doesn't
         printed = printed.decode().removesuffix("\n") + "\n"
         faults = [f"it prints {printed!r} in place of {shown!r}"] if shown is not None and printed != shown else []
         rows.note(name, faults + ([] if status == 0 else [f"status {status}"]))

@@ -258,7 +258,7 @@ def format_faults(rows, folder):
 
 @contextlib.contextmanager
 def small_disk(rows, folder, size):
-    """A folder on a disk of its own with room for `size` bytes; None where none can be mounted."""
+    """A folder on a disk of its own with room for `size` bytes, or None if none can be mounted."""
     place = os.path.join(folder, "disk")
     os.mkdir(place)
     words = ["mount", "-t", "tmpfs", "-o", f"size={size}", "none", place]

@@ -56,7 +56,7 @@ def write(path, image):
 
 
 def every_slot(rows, name, path, prf, algorithm):
-    """Each slot opens by its words, shows its fields, and gives the first and the last sector."""
+    """Each slot opens by its options, shows its fields, and gives the first and the last sector."""
     length = os.path.getsize(path)
     for more, password, slot, place in SLOTS:
         fields = header_fields(path, place(length), password, 1, prf, algorithm)

@@ -3,11 +3,11 @@
 
   check_histories.py [PROGRAM] [--count N] [--killed N] [--seed N] [--side-by-side N]
 
-PROGRAM defaults to crates/vcserve/out/vcserve. N programs run, by default 300, and 20 more whose server is killed in the
-middle; --side-by-side says how many at a time, by default 2. The clients are at named pipes. Some wait for each reply,
-some send all they have at once. They read and write ranges of their own, the same ranges, or both, with and without a
-protected hidden volume, with 0 to 8 helpers. One more program, the first, is as of daily use: three clients of 16 MiB
-under a cascade without a PIM, with two helpers. Then
+PROGRAM defaults to crates/vcserve/out/vcserve. N programs run (300 if it isn't given), and 20 more whose server is
+killed in the middle; --side-by-side says how many at a time, and defaults to 2. The clients are at named pipes. Some
+wait for each reply, some send all they have at once. They read and write ranges of their own, the same ranges, or both,
+with and without a protected hidden volume, with 0 to 8 helpers. One more program, the first, is as of daily use: three
+clients of 16 MiB under a cascade without a PIM, with two helpers. Then
 
 - each reply has the error that docs/PROTOCOL.md gives it, whatever the order of the requests;
 - one history explains all replies and the container (served_history.py), also the times at which they came;

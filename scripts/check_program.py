@@ -230,7 +230,7 @@ def numbers(rows, small):
 
 
 def words_in_order(rows, small):
-    """The same words in other orders, and values behind an equals sign."""
+    """The same arguments in other orders, and values behind an equals sign."""
     two = bytes(range(256)) * 2
     name, path, first, count, *options = words_of(small, 0, 1)
     for words, status in [
@@ -242,7 +242,7 @@ def words_in_order(rows, small):
         ([path, first, *options, "--kind", "any", count], 0),
         ([path, first, count, *options, "--"], 0),
         ([path, first, count, f"--password={PASSWORD}", "--pim=001"], 0),
-        # these open nothing, but they are words of a command
+        # these open nothing, but they are a command's arguments
         ([path, first, count, "--password=-x", "--pim=1"], 3),
         ([path, first, count, "--password=", "--pim=1"], 2),
         ([path, first, count, "--password==", "--pim=1"], 3),
@@ -256,7 +256,7 @@ def words_in_order(rows, small):
 
 
 def client_files(rows, small, folder):
-    """The words after `--` are pairs of files, and only `serve` has them."""
+    """The arguments after `--` are pairs of files, and only `serve` has them."""
     right = words_of(small, 0, 1)
     opening = [small, "--password", PASSWORD, "--pim", "1"]
     a, b, c = (os.path.join(folder, f"client_{letter}") for letter in "abc")
@@ -286,7 +286,7 @@ def client_files(rows, small, folder):
 
 
 def order_of_refusals(rows, folder):
-    """Bad words are told before a file is opened, and next a file that can't be opened."""
+    """Bad arguments are told before a file is opened, and next a file that can't be opened."""
     missing = os.path.join(folder, "missing.vc")
     options = ["--password", PASSWORD, "--pim", "1"]
     random = ["--random", "0" * 64]
@@ -400,7 +400,7 @@ def sparse(rows, folder):
 
 
 def limits(rows, folder):
-    """The longest container, where a file system has room for its length."""
+    """The longest container, if a file system has room for its length."""
     path = os.path.join(folder, "longest.vc")
     longest = 1 << 60
     try:

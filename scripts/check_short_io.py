@@ -1,5 +1,5 @@
 #!/usr/bin/env python3
-"""Runs the built program where the system moves fewer bytes than it is asked to.
+"""Runs the built program while the system moves fewer bytes than it is asked to.
 
   check_short_io.py [PROGRAM]
 

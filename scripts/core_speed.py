@@ -12,7 +12,7 @@ core      a write of 4 KiB made, admitted, deposited and closed, in nanoseconds 
 copies    the same bytes copied to the same places of the same store, as often: the baseline
 
 The best of several runs counts, core and copies in turn. The status is 0 if the core takes at most 2
-microseconds, 1 if it takes longer, and 77 where `rt` is missing.
+microseconds, 1 if it takes longer, and 77 if `rt` is missing.
 """
 import resource
 import shutil

@@ -3,11 +3,11 @@
 
   fuzz_serve.py [PROGRAM] [--count N] [--clients N] [--seed N] [--side-by-side N] [--only N]
 
-PROGRAM defaults to crates/vcserve/out/vcserve. N streams are served, by default 10,000: endless zeros and ff, payloads
-that never end, heads with a length of ffffffff, random bytes, valid requests, and valid ones with bits, bytes and parts
-of them exchanged. --clients says how many a run of the program has, by default 16, and --side-by-side how many runs
-there are at a time, by default 2. Each run has to end, as the model says, with its printed lines and in bounded memory;
-nothing may be in the container but the payloads of whole requests.
+PROGRAM defaults to crates/vcserve/out/vcserve. N streams are served (10,000 if it isn't given): endless zeros and ff,
+payloads that never end, heads with a length of ffffffff, random bytes, valid requests, and valid ones with bits, bytes
+and parts of them exchanged. --clients says how many a run of the program has (16), and --side-by-side how many runs
+there are at a time (2). Each run has to end, as the model says, with its printed lines and in bounded memory; nothing
+may be in the container but the payloads of whole requests.
 
 In one half of the runs each client keeps to sectors of its own, as far as the volume does what it asks, so its replies
 and the container are the model's to the byte. In the other half streams do as they like and a hidden volume is

@@ -27,7 +27,7 @@ of a hidden volume.
       it from its old backup headers on, and then gives the standard header's salt; the backup takes its salt from the fill
 
 The PRFs are sha512, the default, and sha256. The algorithms are the names in
-ALGORITHMS, aes by default. The status is 77 if `cryptography` is missing, or libgcrypt
+ALGORITHMS, and the algorithm defaults to aes. The status is 77 if `cryptography` is missing, or libgcrypt
 for an algorithm with Serpent or Twofish.
 """
 import argparse
@@ -73,7 +73,7 @@ Fields = collections.namedtuple("Fields", "hidden volume start encrypted flags s
 
 @functools.lru_cache(maxsize=None)
 def gcrypt():
-    """The library libgcrypt, or None where it is missing or knows no XTS."""
+    """The library libgcrypt, or None if it is missing or knows no XTS."""
     found = ctypes.util.find_library("gcrypt")
     if found is None:
         return None
@@ -167,7 +167,7 @@ def body(volume, start, material, *, hidden=0, encrypted=None, flags=0, sector=5
 
 
 def fields_of(plain):
-    """The fields of a deciphered body, or None where its magic or a checksum is wrong."""
+    """The fields of a deciphered body, or None if its magic or a checksum is wrong."""
     keys, fields = struct.unpack(">I", plain[8:12]) + struct.unpack(">I", plain[188:192])
     if plain[:4] != b"VERA" or zlib.crc32(plain[:188]) != fields or zlib.crc32(plain[192:]) != keys:
         return None
@@ -179,7 +179,7 @@ def header(password, pim, salt, plain, prf="sha512", algorithm="aes"):
 
 
 def header_fields(path, place, password, pim, prf="sha512", algorithm="aes"):
-    """The fields of the header at a place of the container; None where it is not valid."""
+    """The fields of the header at a place of the container, or None if it isn't valid."""
     with open(path, "rb") as file:
         file.seek(place)
         head = file.read(SECTOR)
@@ -235,7 +235,7 @@ def formatted(size, password, pim, key, prf="sha512", algorithm="aes", sector=SE
 
 
 def hidden(image, size, password, pim, key, prf="sha512", algorithm="aes", sector=SECTOR):
-    """The image with a hidden volume of this size in front of the backup headers."""
+    """The image with a hidden volume of this size before the backup headers."""
     keys = key_length(algorithm)
     stream = random_stream(key, keys + 128)
     plain = body(size, len(image) - GROUP - size, stream[:keys], hidden=size, sector=sector)

@@ -12,7 +12,7 @@ turns     two and eight threads take 200,000 turns each; several runs, lock and 
 waiting   16 threads wait for a turn that one thread holds for a second; the processor time of the whole
           run, as a part of one processor
 
-It judges nothing: the status is 0, but 77 where `rt` is missing.
+It judges nothing: the status is 0, but 77 if `rt` is missing.
 """
 import os
 import resource

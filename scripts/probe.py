@@ -12,7 +12,7 @@ ROOT = os.path.dirname(os.path.dirname(os.path.abspath(__file__)))
 
 
 def below(needed):
-    """These crates and those that they stand on, by crates.txt, each with its dependencies."""
+    """These crates and those that they need, by crates.txt, each with its dependencies."""
     lines = {}
     with open(os.path.join(ROOT, "crates.txt"), encoding="utf-8") as file:
         for line in file:

@@ -58,7 +58,7 @@ class Rows:
         print(f"left out: {what}: {why}", flush=True)
 
     def row(self, name, words, status, out=b"", length=None, kept=None, left=None, **how):
-        """One run. `kept` is the file that has to stay as it is, by default the one that is named;
+        """One run. `kept` is the file that has to stay as it is, and defaults to the one that is named;
         with `left` that file has these bytes after the run."""
         kept = kept or (words[1] if len(words) > 1 else None)
         before = fingerprint(kept)

@@ -10,7 +10,7 @@ runs are a `serve` of two clients with sectors of their own and two helpers, and
 
 A run of `serve` is right if
 
-- it ends with status 9 or 0, and with 0 all requests are answered;
+- it ends with status 9 or 0, and with 0 all requests are replied to;
 - each reply is the one that is given without the library, or error 12 to a request that then had no effect;
 - each client's sectors are as its replies say, or as after one more request, if its output was out of memory.
 

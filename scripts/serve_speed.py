@@ -1,10 +1,10 @@
 #!/usr/bin/env python3
-"""How fast `serve` answers one client that makes one request at a time, beside the ciphers and a copying loop.
+"""How fast `serve` replies to one client that makes one request at a time, beside the ciphers and a copying loop.
 
   serve_speed.py [PROGRAM [MEASURE ..]]
 
 PROGRAM defaults to crates/vcserve/out/vcserve. The client and the copying loop are a small C program, which gcc builds.
-Both are at a pair of named pipes. The loop answers the same requests over a regular file, without a cipher and
+Both are at a pair of named pipes. The loop replies to the same requests over a regular file, without a cipher and
 without checks, so what a request costs above it is the program's own time. All times are by the clock, each the best of
 several runs, program and loop in turn.
 
@@ -132,7 +132,7 @@ class Place:
         return [self.client, "copier", *self.pipes, self.plain]
 
     def seconds(self, server, kind, length, count, places=0):
-        """What so many requests take that this server answers."""
+        """What so many requests take that this server replies to."""
         with subprocess.Popen(server, stdin=subprocess.DEVNULL, stdout=subprocess.DEVNULL) as run:
             words = [self.client, *self.pipes, str(kind), str(length), str(count), str(places)]
             try:
@@ -208,7 +208,7 @@ def ticks(pid):
 def idle(place):
     with subprocess.Popen(place.server(), stdin=subprocess.DEVNULL, stdout=subprocess.DEVNULL) as run:
         with open(place.pipes[0], "wb", buffering=0) as to, open(place.pipes[1], "rb", buffering=0) as of:
-            # opened, and one request answered
+            # opened, and one request replied to
             to.write(struct.pack(">IHHQQI", 0x25609513, 0, FLUSH, 1, 0, 0))
             assert len(of.read(16)) == 16
             time.sleep(0.1)

@@ -224,7 +224,7 @@ def random_option(draw):
 
 
 def random_client(draw):
-    """The bytes of a client: options, and then requests whether they are asked for or not."""
+    """The bytes of a client: options, and then requests, even if the options lead to no session."""
     flags = draw.choice((0, 1, 2, 3, 3, 3, 3, 3, 4, 1 << 31))
     given = struct.pack(">I", flags) + b"".join(random_option(draw) for _ in range(draw.randrange(8)))
     given += draw.choice((b"", option(GO, asked()), option(GO, asked()), option(EXPORT_NAME)))

@@ -35,7 +35,7 @@ threads      by the clock, on an idle machine: `cat` of 256 MiB with AES to nowh
              against the same on one of the processors
 enciphering  data units in memory, by a program of its own (probe.py), against deciphering them
 
-It judges nothing: the status is 0, but 77 where the package `cryptography` is missing. A baseline
+It judges nothing: the status is 0, but 77 if the package `cryptography` is missing. A baseline
 that is missing is told and left out.
 """
 import ctypes
@@ -58,7 +58,7 @@ HERE = os.path.dirname(os.path.abspath(__file__))
 PROGRAM = os.path.join(HERE, "..", "crates", "vcserve", "out", "vcserve")
 PASSWORD = "correct horse"
 TURNS = 7
-# Fewer where a turn writes or deciphers much.
+# Fewer if a turn writes or deciphers much.
 LONG_TURNS = 3
 FORMAT_MIB = 256
 CAT_MIB = 32
@@ -277,7 +277,7 @@ def gcrypt_time(cipher, mode, size):
 
 
 def gcrypt_rate(algorithm, mode):
-    """libgcrypt's MB/s, one pass for each cipher; None where it is missing."""
+    """libgcrypt's MB/s, one pass for each cipher, or None if it is missing."""
     if gcrypt() is None:
         return None
     size = 1 << 16
@@ -368,7 +368,7 @@ def enciphering(_program, folder):
 
 
 def openssl_rate(name, length, *more, extra={}):
-    """OpenSSL's MB/s over stretches of this length; None where it can't be measured."""
+    """OpenSSL's MB/s over stretches of this length, or None if it can't be measured."""
     tool = shutil.which("openssl")
     if tool is None:
         return None
