@@ -39,7 +39,7 @@ fn is_beside(one: Ask, next: Ask) -> bool
 }
 
 // Whether it is a read or a write.
-fn is_transfer(ask: Ask) -> bool
+pub(crate) fn is_transfer(ask: Ask) -> bool
     ensures { result ≡ is_transfer ask }
 {
     match ask {

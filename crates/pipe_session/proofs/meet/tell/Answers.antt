@@ -1,4 +1,4 @@
-use Rattle.std.proofs.Common.{List, ℕ, ◌∷◌, ◌++◌, ap, subst, ◌∙◌}
+use Rattle.std.proofs.Common.{List, ℕ, ◌∷◌, ◌++◌, ap, subst, ◌∙◌, arith}
 use Rattle.hist_lock.specs.History.{StartsWith}
 use Rattle.hist_lock.specs.Known.{longer, view}
 use Rattle.sector_model.specs.declared.entry.Entry.{Entry}
@@ -13,6 +13,7 @@ returns-clause-told g c =
       base = j.same.0;
       number = j.same.1;
       own = j.same.2;
+      knows = omega (arith, j.given);
       longer_is = j.longer ∙ ap (λ (l : List Entry). longer (view c.args.other.now.seat).seen l) s.seen;
       later = j.seen.0;
       sees = subst (λ (l : List Entry). StartsWith (view c.join.new.pass.seat).seen l) s.seen j.seen.1;
